@@ -1,6 +1,7 @@
 -- Demands 2 and 3 as statements about the definitions: the types that the theorems have.
-use Rattle.std.specs.Prelude.{ℕ, ◌≤◌, ◌<◌, ◌≡◌, ◌↔◌, ◌≢◌, ◌⊎◌, List, [], ◌∷◌, Bool, true, false, length}
+use Rattle.std.specs.Prelude.{ℕ, ◌≤◌, ◌<◌, ◌≡◌, ◌↔◌, ◌≢◌, ◌⊎◌, List, [], ◌∷◌, Bool, true, false, length, Ok, is_err}
 use Rattle.notation.specs.Limits.{scratch_words, run_words}
+use Rattle.notation.specs.Refusals.{refuses}
 use Rattle.notation.specs.Tree.{Name, Declaration}
 use Rattle.grammar.specs.Notation.{Derives}
 use Rattle.calculus.specs.Program.{Signature, Program, program_of}
@@ -15,11 +16,8 @@ use Rattle.calculus.specs.WellFormed.{WellFormed}
 use Rattle.calculus.specs.Reduces.{Reduces, Halts, Lacks, Open}
 use Rattle.calculus.specs.Machine.{Call, call_start, call_step, call_run_on, call_report, call_places, call_exec_name, Answer, started, stepped, ran_on, reported, surveyed, name_given, Reply, reply, Exchange, respond, idle, history}
 use Rattle.calculus.specs.declared.answers.Seen.{Seen}
-use Rattle.calculus.specs.declared.answers.Started.TheVariants as Starts
 use Rattle.calculus.specs.declared.answers.Stepped.TheVariants as Steps
 use Rattle.calculus.specs.declared.answers.RanOn.TheVariants as Runs
-use Rattle.calculus.specs.declared.answers.Reported.TheVariants as Reports
-use Rattle.calculus.specs.declared.answers.Surveyed.TheVariants as Surveys
 
 -- ── demand 2: "A script is accepted exactly when the typing rules give it a derivation"
 -- the typing rules give every process of the script a derivation
@@ -39,10 +37,10 @@ pub record Enough (scratch run : ℕ) : Type 0 where
 
 -- a call of step at place i, which meets C, answers that it was carried out and showed `seen`, and leaves D; or answers uncaught, and leaves C halted
 abbrev pub Answered : List ℕ → Config → ℕ → ℕ → ℕ → Seen → Config → Type 0
-Answered text C scratch run i seen D = respond text C (call_step scratch run i) ≡ reply (stepped (Steps.Carried seen)) D
+Answered text C scratch run i seen D = respond text C (call_step scratch run i) ≡ reply (stepped (Ok (Steps.Carried seen))) D
 
 abbrev pub AnsweredUncaught : List ℕ → Config → ℕ → ℕ → ℕ → Type 0
-AnsweredUncaught text C scratch run i = respond text C (call_step scratch run i) ≡ reply (stepped Steps.Uncaught) (halt C)
+AnsweredUncaught text C scratch run i = respond text C (call_step scratch run i) ≡ reply (stepped (Ok Steps.Uncaught)) (halt C)
 
 pub record Demand2 : Type 0 where
   pub accepts : (text : List ℕ) (ds : List Declaration) → (checked text ≡ accepted ds) ↔ Derivable text ds
@@ -71,21 +69,11 @@ pub record Safe (p : Program) (C : Config) : Type 0 where
 
 -- ── which calls are refused
 abbrev pub is_refused : Answer → Bool
-is_refused (started Starts.Begun) = false
-is_refused (started (Starts.Refused n i)) = true
-is_refused (stepped (Steps.Carried s)) = false
-is_refused (stepped Steps.Uncaught) = false
-is_refused (stepped (Steps.Refused n i)) = true
-is_refused (ran_on (Runs.Uncaught t)) = false
-is_refused (ran_on (Runs.Shown s t)) = false
-is_refused (ran_on (Runs.Done t)) = false
-is_refused (ran_on (Runs.Full t)) = false
-is_refused (ran_on (Runs.Stopped t)) = false
-is_refused (ran_on (Runs.Refused n i)) = true
-is_refused (reported (Reports.Open n) l) = false
-is_refused (reported (Reports.Refused n i) l) = true
-is_refused (surveyed (Surveys.Processes n) l) = false
-is_refused (surveyed (Surveys.Refused n i) l) = true
+is_refused (started r) = is_err r
+is_refused (stepped r) = is_err r
+is_refused (ran_on r) = is_err r
+is_refused (reported r l) = is_err r
+is_refused (surveyed r l) = is_err r
 is_refused (name_given l ℕ.zero i) = false
 is_refused (name_given l (ℕ.suc n) i) = true
 
@@ -118,8 +106,8 @@ SafeBetween p C (call_exec_name scratch line) = Unit {0}
 -- "a halted run answers 22 to every step and uncaught to every run-on", and stays as it is; "A start begins anew"
 abbrev pub AnsweredHalted : Config → Call → Reply → Type 0
 AnsweredHalted C (call_start scratch run line) r = is_refused r.answer ≡ false → r.config.halted ≡ false
-AnsweredHalted C (call_step scratch run i) r = r ≡ reply (stepped (Steps.Refused 22 0)) C
-AnsweredHalted C (call_run_on scratch run budget) r = r ≡ reply (ran_on (Runs.Uncaught 0)) C
+AnsweredHalted C (call_step scratch run i) r = r ≡ reply (stepped (refuses 22 0)) C
+AnsweredHalted C (call_run_on scratch run budget) r = r ≡ reply (ran_on (Ok (Runs.Uncaught 0))) C
 AnsweredHalted C (call_report scratch run) r = Unit {0}
 AnsweredHalted C (call_places scratch run) r = Unit {0}
 AnsweredHalted C (call_exec_name scratch line) r = Unit {0}
@@ -136,5 +124,5 @@ pub record SafeExchange (p : Program) (m : Exchange) : Type 0 where
 pub record PlainDemand3 : Type 0 where
   pub at_each_call : (text : List ℕ) (ds : List Declaration) (scratch run line : ℕ) (calls : List Call)
       → checked text ≡ accepted ds
-      → (respond text idle (call_start scratch run line)).answer ≡ started Starts.Begun
+      → (respond text idle (call_start scratch run line)).answer ≡ started (Ok tt)
       → (m : Exchange) → In m (history text idle (call_start scratch run line ∷ calls)) → SafeExchange (program_of ds) m

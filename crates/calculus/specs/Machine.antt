@@ -1,24 +1,18 @@
 -- "Demand 3's plain machine is fed with the calls alone: script, numbers and slice lengths, never the run slice's words."
-use Rattle.std.specs.Prelude.{ℕ, List, [], ◌∷◌, Bool, true, false, cond, length, leb}
+use Rattle.std.specs.Prelude.{ℕ, List, [], ◌∷◌, Bool, true, false, cond, length, leb, Ok}
 use Rattle.std.proofs.Math.Option.{Option, some, none}
 use Rattle.std.proofs.Math.ListN.{get_elem?}
 use Rattle.notation.specs.Limits.{scratch_words, run_words}
+use Rattle.notation.specs.Refusals.{OrRefusal, refuses}
 use Rattle.calculus.specs.Program.{Program, program_of}
 use Rattle.calculus.specs.Accepted.{Checked, accepted, faulty, checked}
 use Rattle.calculus.specs.Configuration.{Process, Config, config, halt, at}
 use Rattle.calculus.specs.Steps.{Outcome, carried, uncaught, not_open, lacking, step}
 use Rattle.calculus.specs.Runs.{start_config, exec_of, run_on, report, places}
 use Rattle.calculus.specs.declared.answers.Seen.{Seen}
-use Rattle.calculus.specs.declared.answers.Started.{Started}
-use Rattle.calculus.specs.declared.answers.Started.TheVariants as Starts
 use Rattle.calculus.specs.declared.answers.Stepped.{Stepped}
 use Rattle.calculus.specs.declared.answers.Stepped.TheVariants as Steps
 use Rattle.calculus.specs.declared.answers.RanOn.{RanOn}
-use Rattle.calculus.specs.declared.answers.RanOn.TheVariants as Runs
-use Rattle.calculus.specs.declared.answers.Reported.{Reported}
-use Rattle.calculus.specs.declared.answers.Reported.TheVariants as Reports
-use Rattle.calculus.specs.declared.answers.Surveyed.{Surveyed}
-use Rattle.calculus.specs.declared.answers.Surveyed.TheVariants as Surveys
 
 -- a call: the lengths of the slices lent, in words, and its number if it takes one
 pub data Call : Type 0 where
@@ -29,13 +23,13 @@ pub data Call : Type 0 where
   call_places : (scratch run : ℕ) → Call
   call_exec_name : (scratch line : ℕ) → Call
 
--- an answer; a report's with the numbers, a survey's with what each place's step is, an exec name's with the part of the text, the refusal's number and its offset
+-- an answer or its refusal; a report's is a count, with the numbers, a survey's a count, with what each place's step is, an exec name's the part of the text, the refusal's number and its offset
 pub data Answer : Type 0 where
-  started : Started → Answer
-  stepped : Stepped → Answer
-  ran_on : RanOn → Answer
-  reported : Reported → List ℕ → Answer
-  surveyed : Surveyed → List ℕ → Answer
+  started : OrRefusal (Unit {0}) → Answer
+  stepped : OrRefusal Stepped → Answer
+  ran_on : OrRefusal RanOn → Answer
+  reported : OrRefusal ℕ → List ℕ → Answer
+  surveyed : OrRefusal ℕ → List ℕ → Answer
   name_given : List ℕ → ℕ → ℕ → Answer
 
 -- an answer and the configuration afterwards
@@ -82,36 +76,36 @@ on_step lacking refuse k halts = refuse 21 0
 
 -- a refusal, by the call's kind
 abbrev pub refusal : Config → Call → ℕ → ℕ → Reply
-refusal C (call_start scratch run line) n i = reply (started (Starts.Refused n i)) C
-refusal C (call_step scratch run place) n i = reply (stepped (Steps.Refused n i)) C
-refusal C (call_run_on scratch run budget) n i = reply (ran_on (Runs.Refused n i)) C
-refusal C (call_report scratch run) n i = reply (reported (Reports.Refused n i) []) C
-refusal C (call_places scratch run) n i = reply (surveyed (Surveys.Refused n i) []) C
+refusal C (call_start scratch run line) n i = reply (started (refuses n i)) C
+refusal C (call_step scratch run place) n i = reply (stepped (refuses n i)) C
+refusal C (call_run_on scratch run budget) n i = reply (ran_on (refuses n i)) C
+refusal C (call_report scratch run) n i = reply (reported (refuses n i) []) C
+refusal C (call_places scratch run) n i = reply (surveyed (refuses n i) []) C
 refusal C (call_exec_name scratch line) n i = reply (name_given [] n i) C
 
 abbrev pub respond_by : (ℕ → ℕ → Reply) → List ℕ → Config → Call → Reply
 respond_by refuse s C (call_start scratch run line) =
     on_program (text_checked s scratch) refuse λ p.
     on_run run refuse
-    (on_line (exec_of p line) refuse λ g. reply (started Starts.Begun) (start_config g))
+    (on_line (exec_of p line) refuse λ g. reply (started (Ok tt)) (start_config g))
 respond_by refuse s C (call_step scratch run place) =
     on_program (text_checked s scratch) refuse λ p.
     on_run run refuse
     (on_going C.halted refuse
     (on_place (at C place) refuse
-    (on_step (step p C place) refuse (λ seen D. reply (stepped (Steps.Carried seen)) D) (reply (stepped Steps.Uncaught) (halt C)))))
+    (on_step (step p C place) refuse (λ seen D. reply (stepped (Ok (Steps.Carried seen))) D) (reply (stepped (Ok Steps.Uncaught)) (halt C)))))
 respond_by refuse s C (call_run_on scratch run budget) =
     on_program (text_checked s scratch) refuse λ p.
     on_run run refuse
-    (reply (ran_on (run_on p C budget).answer) (run_on p C budget).config)
+    (reply (ran_on (Ok (run_on p C budget).answer)) (run_on p C budget).config)
 respond_by refuse s C (call_report scratch run) =
     on_program (text_checked s scratch) refuse λ p.
     on_run run refuse
-    (reply (reported (Reports.Open (length (report C))) (report C)) C)
+    (reply (reported (Ok (length (report C))) (report C)) C)
 respond_by refuse s C (call_places scratch run) =
     on_program (text_checked s scratch) refuse λ p.
     on_run run refuse
-    (reply (surveyed (Surveys.Processes (length (places p C))) (places p C)) C)
+    (reply (surveyed (Ok (length (places p C))) (places p C)) C)
 respond_by refuse s C (call_exec_name scratch line) =
     on_program (text_checked s scratch) refuse λ p.
     on_line (get_elem? p.execs line) refuse λ n. reply (name_given n.name 0 0) C

@@ -29,7 +29,7 @@ use Rattle.calculus.specs.Runs.{start_config, line_signature, exec_of, run_on}
 use Rattle.calculus.specs.declared.answers.Seen.{Seen}
 use Rattle.calculus.specs.declared.answers.Seen.TheVariants.{Nothing, Label, Close, Passed, Cancelled}
 use Rattle.calculus.specs.declared.answers.RanOn.{RanOn}
-use Rattle.calculus.specs.declared.answers.RanOn.TheVariants.{Uncaught, Shown, Done, Full, Stopped, Refused}
+use Rattle.calculus.specs.declared.answers.RanOn.TheVariants.{Uncaught, Shown, Done, Full, Stopped}
 
 -- "10,000 steps taken in this exec"
 abbrev pub step_limit : ℕ
@@ -74,7 +74,6 @@ showing s taken (Uncaught steps) more = ending (bytes "uncaught") (taken + steps
 showing s taken (Done steps) more = ending (bytes "done") (taken + steps)
 showing s taken (Full steps) more = ending (bytes "full") (taken + steps)
 showing s taken (Stopped steps) more = ending (bytes "stopped") (taken + steps)
-showing s taken (Refused n at) more = []
 
 unfoldable pub run_lines : ℕ → List ℕ → Program → ℕ → Config → List ℕ
 run_lines zero s p taken C = []

@@ -1,17 +1,16 @@
 -- What a check says: nothing is at fault, or the refusal's number and its offset.
-use Rattle.std.specs.Prelude.{ℕ, List, [], ◌∷◌, Bool, true, false, cond, ltb}
+use Rattle.std.specs.Prelude.{ℕ, List, [], ◌∷◌, Bool, true, false, cond, ltb, Ok, Err}
 use Rattle.std.proofs.Math.Option.{Option, some, none}
-use Rattle.calculus.specs.declared.verdict.Verdict as answered
-use Rattle.calculus.specs.declared.verdict.Verdict.TheVariants.{Fine, Refused}
+use Rattle.notation.specs.Refusals.{OrRefusal}
 
 pub data Verdict : Type 0 where
   fine : Verdict
   refused : ℕ → ℕ → Verdict
 
 -- the verdict that an answer of the code stands for
-abbrev pub verdict_of : answered.Verdict → Verdict
-verdict_of Fine = fine
-verdict_of (Refused n at) = refused n at
+abbrev pub verdict_of : OrRefusal (Unit {0}) → Verdict
+verdict_of (Ok x) = fine
+verdict_of (Err r) = refused r.number r.at
 
 -- of two verdicts in order, the first that is a refusal
 abbrev pub and_then : Verdict → Verdict → Verdict

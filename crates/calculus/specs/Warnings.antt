@@ -1,5 +1,5 @@
 -- A script's warnings: the labels that its recvs leave out.
-use Rattle.std.specs.Prelude.{ℕ, ◌+◌, ◌≡◌, List, [], ◌∷◌, ◌++◌, map, cond}
+use Rattle.std.specs.Prelude.{ℕ, ◌+◌, ◌≡◌, List, [], ◌∷◌, ◌++◌, map, cond, Some, None, Option as CodeOption}
 use Rattle.std.proofs.Math.Option.{Option, some, none}
 use Rattle.notation.specs.Token.{name_at}
 use Rattle.notation.specs.Tree.{Name, Located, Alternatives, alternative, Proc, empty, send_unit, send_channel, send_label, cancel, spawn, recv_unit, recv_channel, recv_label, fwd, call, raise, try, Branches, branch, Declaration, declare_type, declare_proc, declare_exec, plain}
@@ -10,8 +10,7 @@ use Rattle.calculus.specs.Declarations.{gather}
 use Rattle.calculus.specs.Mentions.{spawn_takes, spawn_leaves, try_takes}
 use Rattle.calculus.specs.Typing.{acting, retyped, bringing}
 use Rattle.calculus.specs.Steps.{branch_of}
-use Rattle.calculus.specs.declared.answers.Warned.{Warned}
-use Rattle.calculus.specs.declared.answers.Warned.TheVariants as warned
+use Rattle.calculus.specs.declared.answers.Missing.{Missing as MissingAt}
 
 -- a label that a recv leaves out: the recv's channel, as it is named there, and the label
 pub record Missing : Type 0 where
@@ -87,6 +86,7 @@ unfoldable pub warnings : List Declaration → List Warning
 warnings ds = gather (own_warnings (program_of ds)) ds
 
 -- an answer that tells of a warning in the text s: where its process and its channel are named, and where a label of that name stands
-abbrev pub TellsOf : List ℕ → Option Warning → Warned → Type 0
-TellsOf s none r = r ≡ warned.Nothing
-TellsOf s (some w) r = (label : ℕ) × (r ≡ warned.Missing w.process.at w.channel.at label) × (name_at s (label + 1) ≡ w.label)
+abbrev pub TellsOf : List ℕ → Option Warning → CodeOption MissingAt → Type 0
+TellsOf s none r = r ≡ None
+TellsOf s (some w) r =
+    (label : ℕ) × (r ≡ Some (record { process = w.process.at; channel = w.channel.at; label = label })) × (name_at s (label + 1) ≡ w.label)

@@ -9,19 +9,12 @@ pub enum Seen {
     Cancelled(u32),
 }
 
-// Each answer is a refusal, with its number and its offset in the text, or what was carried out.
-#[derive(Clone, Copy)]
-pub enum Started {
-    Begun,
-    Refused(u32, usize),
-}
-
-// Uncaught: the step was a raise that nobody catches, and the run has halted.
+// What a step comes to that is carried out: what it shows; or it was a raise that nobody catches, and the run has halted.
+// The entries answer such a thing or a refusal.
 #[derive(Clone, Copy)]
 pub enum Stepped {
     Carried(Seen),
     Uncaught,
-    Refused(u32, usize),
 }
 
 // A run-on's end, each with the steps taken.
@@ -32,39 +25,26 @@ pub enum RanOn {
     Done(u32),
     Full(u32),
     Stopped(u32),
-    Refused(u32, usize),
 }
 
-// How many outside channels are open; their numbers stand beside it in Report, rising.
-#[derive(Clone, Copy)]
-pub enum Reported {
-    Open(u32),
-    Refused(u32, usize),
-}
-
+// How many outside channels are open, and their numbers, rising; zeros after them.
 #[derive(Clone, Copy)]
 pub struct Report {
-    pub answer: Reported,
+    pub open: u32,
     pub numbers: [u32; 32],
 }
 
-// How many processes there are; what the step at each of their places is stands beside it in Places: not open 0, open 1, open but lacking 2; in a halted run none is open.
-#[derive(Clone, Copy)]
-pub enum Surveyed {
-    Processes(u32),
-    Refused(u32, usize),
-}
-
+// How many processes there are, and what the step at each of their places is: not open 0, open 1, open but lacking 2; in a halted run none is open. Zeros after them.
 #[derive(Clone, Copy)]
 pub struct Places {
-    pub answer: Surveyed,
+    pub processes: u32,
     pub steps: [u32; 128],
 }
 
-// A warning of a script: where the names of its process and of the recv's channel stand, and the missing label's apostrophe; or that there is none of that number.
+// A warning of a script: where the names of its process and of the recv's channel stand, and the missing label's apostrophe.
 #[derive(Clone, Copy)]
-pub enum Warned {
-    Missing(usize, usize, usize),
-    Nothing,
-    Refused(u32, usize),
+pub struct Missing {
+    pub process: usize,
+    pub channel: usize,
+    pub label: usize,
 }

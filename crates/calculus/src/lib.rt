@@ -1,4 +1,3 @@
 #![tactic(auto)]
 
 pub mod answers;
-pub mod verdict;

@@ -1,17 +1,18 @@
 -- What a line of a log comes to: the entry's own contract, and the words of its answer.
-use Rattle.std.specs.Prelude.{ℕ, ◌+◌, ◌≤◌, ◌≡◌, List, [], length}
+use Rattle.std.specs.Prelude.{ℕ, ◌+◌, ◌≤◌, ◌≡◌, List, [], length, refl, Ok, Err}
 use Rattle.std.proofs.Common.{sym, ◌∙◌, subst, arith, length-take}
 use Rattle.std.proofs.Math.Path.{ap}
 use Rattle.std.proofs.Math.ListN.{take}
 use Rattle.notation.specs.Bytes.{bytes}
+use Rattle.notation.specs.Refusals.{OrRefusal}
 use Rattle.calculus.specs.Machine.{Answer}
-use Rattle.calculus.specs.declared.answers.Report.{Report as ReportWords}
-use Rattle.calculus.specs.declared.answers.Places.{Places as PlacesWords}
-use Rattle.interpreter.specs.Entries.{Request, to_start, to_step, to_run_on, to_report, to_places, to_name, Answers, called, counted, report_answer, places_counted, places_answer}
+use Rattle.calculus.specs.declared.answers.Report.{Report as OpenReport}
+use Rattle.calculus.specs.declared.answers.Places.{Places as PlacesSurvey}
+use Rattle.interpreter.specs.Entries.{Request, to_start, to_step, to_run_on, to_report, to_places, to_name, Answers, called, report_answer, places_answer}
 use Rattle.print_bytes.specs.Writing.{Appended, appended_as}
-use Rattle.print_answers.specs.Answers.{answer_words, reported_words, surveyed_words}
+use Rattle.print_answers.specs.Answers.{answer_words, report_words, places_words}
 use Rattle.call_lines.specs.declared.lines.CallLine.{CallLine}
-use Rattle.call_lines.specs.declared.lines.CallLine.TheVariants.{Start, Step, Run, Report, Places, Name, Scratch, RunWords, Wrong}
+use Rattle.call_lines.specs.declared.lines.CallLine.TheVariants.{Start, Step, Run, Report, Places, Name, Scratch, RunWords}
 
 -- no answer has more bytes than this
 abbrev pub answer_room : List ℕ → ℕ
@@ -46,7 +47,6 @@ line_answered Places s w ws v vs old new r = Answered s to_places w ws v vs old 
 line_answered (Name n) s w ws v vs old new r = NameAnswered s n w ws v vs old new r
 line_answered (Scratch n) s w ws v vs old new r = Said (bytes "lent") w ws v vs old new r
 line_answered (RunWords n) s w ws v vs old new r = Said (bytes "lent") w ws v vs old new r
-line_answered Wrong s w ws v vs old new r = Said [] w ws v vs old new r
 
 pub record LineAnswered (call : CallLine) (s w ws v vs old new : List ℕ) (r : ℕ) : Type 0 where
   pub is : line_answered call s w ws v vs old new r
@@ -56,15 +56,16 @@ module _ {s w ws v vs old new : List ℕ} {r : ℕ} where
   pub answered_by_lem : (a : Answer) {q : Request} → Answers s (called q w ws a v vs) → Appended old new 0 r (answer_words s a) → Answered s q w ws v vs old new r
   answered_by_lem a e p = record { answer = a; answers = e; words = p }
 
-  pub line_answered_lem : {call : CallLine} (x : CallLine) → call ≡ x → line_answered x s w ws v vs old new r → {l : List ℕ} → Appended old new 0 r l → LineAnswered call s w ws v vs old new r × (r ≤ length new)
-  line_answered_lem x e p a = (record { is = subst (λ c. line_answered c s w ws v vs old new r) (sym e) p }, omega (arith, a.ends, ap length a.front, length-take r new))
+  pub line_answered_lem : {call : CallLine} (x : CallLine) → call ≡ x → line_answered x s w ws v vs old new r → LineAnswered call s w ws v vs old new r
+  line_answered_lem x e p = record { is = subst (λ c. line_answered c s w ws v vs old new r) (sym e) p }
 
--- the words of what an entry lists are those of the part of its array that counts
-module _ (s : List ℕ) {old new : List ℕ} {k n : ℕ} {l : List ℕ} where
-  pub report_words : (r : ReportWords) → n ≡ counted r.answer → l ≡ take n r.numbers → Appended old new 0 k (reported_words r.answer l) → Appended old new 0 k (answer_words s (report_answer r))
-  unfolding answer_words
-  report_words r e f p = appended_as (ap (reported_words r.answer) (f ∙ ap (λ m. take m r.numbers) e)) p
+-- the words of a report and of a survey, as the code has them
+pub report_said : (s : List ℕ) (r : OrRefusal OpenReport) → report_words r ≡ answer_words s (report_answer r)
+unfolding answer_words
+report_said s (Ok r) = refl
+report_said s (Err e) = refl
 
-  pub places_words : (r : PlacesWords) → n ≡ places_counted r.answer → l ≡ take n r.steps → Appended old new 0 k (surveyed_words r.answer l) → Appended old new 0 k (answer_words s (places_answer r))
-  unfolding answer_words
-  places_words r e f p = appended_as (ap (surveyed_words r.answer) (f ∙ ap (λ m. take m r.steps) e)) p
+pub places_said : (s : List ℕ) (r : OrRefusal PlacesSurvey) → places_words r ≡ answer_words s (places_answer r)
+unfolding answer_words
+places_said s (Ok r) = refl
+places_said s (Err e) = refl

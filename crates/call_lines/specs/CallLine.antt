@@ -1,12 +1,10 @@
 -- A log of calls: a script, a line ---, then a call a line. What follows the first " -> " in a line is not read.
-use Rattle.std.specs.Prelude.{ℕ, suc, ◌+◌, ◌-◌, ◌*◌, List, [], ◌∷◌, Bool, true, false, cond, ◌&&◌, ltb, leb, eqb, length, take, drop}
+use Rattle.std.specs.Prelude.{ℕ, suc, ◌+◌, ◌-◌, ◌*◌, List, [], ◌∷◌, Bool, true, false, cond, ◌&&◌, ltb, leb, eqb, length, take, drop, Option, Some, None, option_map, option_and_then}
+use Rattle.std.specs.Option.{option_or, is_none}
+use Rattle.std.specs.Str.{bytes_eq}
 use Rattle.notation.specs.Bytes.{bytes, within}
 use Rattle.call_lines.specs.declared.lines.CallLine.{CallLine}
 use Rattle.call_lines.specs.declared.lines.CallLine.TheVariants as Calls
-use Rattle.call_lines.specs.declared.lines.Word.{Word}
-use Rattle.call_lines.specs.declared.lines.Word.TheVariants.{Start, Step, RunWords, Run, Name, Scratch, Report, Places, Other}
-use Rattle.call_lines.specs.declared.numbers.Number.{Number}
-use Rattle.call_lines.specs.declared.numbers.Number.TheVariants.{Of, Missing, Malformed}
 use Rattle.call_lines.specs.declared.log.Sought.{Sought}
 use Rattle.call_lines.specs.declared.log.Sought.TheVariants.{Rule, NoCall}
 
@@ -29,38 +27,17 @@ abbrev pub with_digit : ℕ → ℕ → ℕ
 with_digit n b = 10 * n + (b - 48)
 
 -- n is the number of the digits before these
-unfoldable pub number_from : ℕ → List ℕ → Number
-number_from n [] = Of n
-number_from n (b ∷ l) = cond (within 48 57 b) (cond (ltb (with_digit n b) numbers) (number_from (with_digit n b) l) Malformed) Malformed
+unfoldable pub number_from : ℕ → List ℕ → Option ℕ
+number_from n [] = Some n
+number_from n (b ∷ l) = cond (within 48 57 b) (cond (ltb (with_digit n b) numbers) (number_from (with_digit n b) l) None) None
 
-unfoldable pub number_in : List ℕ → Number
-number_in l = cond (eqb (length l) 0) Missing (cond (leb (length l) 10) (number_from 0 l) Malformed)
+unfoldable pub number_in : List ℕ → Option ℕ
+number_in l = cond (eqb (length l) 0) None (cond (leb (length l) 10) (number_from 0 l) None)
 
--- ── a call: its word, and what its number must be
-unfoldable pub later_word : List ℕ → Word
-later_word l =
-    cond (begins (bytes "name ") l) Name
-    (cond (begins (bytes "scratch ") l) Scratch
-    (cond (begins (bytes "report") l) Report
-    (cond (begins (bytes "places") l) Places Other)))
-
-unfoldable pub word_in : List ℕ → Word
-word_in l =
-    cond (begins (bytes "start ") l) Start
-    (cond (begins (bytes "step ") l) Step
-    (cond (begins (bytes "run words ") l) RunWords
-    (cond (begins (bytes "run ") l) Run (later_word l))))
-
-unfoldable pub word_length : Word → ℕ
-word_length Start = 6
-word_length Step = 5
-word_length RunWords = 10
-word_length Run = 4
-word_length Name = 5
-word_length Scratch = 8
-word_length Report = 6
-word_length Places = 6
-word_length Other = 0
+-- ── a call: a word and its number, or a word alone
+-- the number after the word
+unfoldable pub number_after : List ℕ → List ℕ → Option ℕ
+number_after w l = cond (begins w l) (number_in (drop (length w) l)) None
 
 -- what may be lent, in words
 abbrev pub most_scratch : ℕ
@@ -69,41 +46,28 @@ most_scratch = 16384
 abbrev pub most_run : ℕ
 most_run = 8192
 
-unfoldable pub numbered : Word → ℕ → CallLine
-numbered Start n = Calls.Start n
-numbered Step n = Calls.Step n
-numbered RunWords n = cond (leb n most_run) (Calls.RunWords n) Calls.Wrong
-numbered Run n = Calls.Run n
-numbered Name n = Calls.Name n
-numbered Scratch n = cond (leb n most_scratch) (Calls.Scratch n) Calls.Wrong
-numbered Report n = Calls.Wrong
-numbered Places n = Calls.Wrong
-numbered Other n = Calls.Wrong
+abbrev pub at_most : ℕ → ℕ → Option ℕ
+at_most most n = cond (leb n most) (Some n) None
 
-unfoldable pub alone : Word → CallLine
-alone Start = Calls.Wrong
-alone Step = Calls.Wrong
-alone RunWords = Calls.Wrong
-alone Run = Calls.Wrong
-alone Name = Calls.Wrong
-alone Scratch = Calls.Wrong
-alone Report = Calls.Report
-alone Places = Calls.Places
-alone Other = Calls.Wrong
+-- the word is all there is
+abbrev pub alone : List ℕ → CallLine → List ℕ → Option CallLine
+alone w c l = cond (bytes_eq l w) (Some c) None
 
-unfoldable pub made : Word → Number → CallLine
-made word (Of n) = numbered word n
-made word Missing = alone word
-made word Malformed = Calls.Wrong
-
-abbrev pub call_in : List ℕ → CallLine
-call_in l = made (word_in l) (number_in (drop (word_length (word_in l)) l))
+unfoldable pub call_in : List ℕ → Option CallLine
+call_in l =
+    option_or (option_map Calls.Start (number_after (bytes "start ") l))
+    (option_or (option_map Calls.Step (number_after (bytes "step ") l))
+    (option_or (option_map Calls.Run (number_after (bytes "run ") l))
+    (option_or (option_map Calls.Name (number_after (bytes "name ") l))
+    (option_or (option_map Calls.Scratch (option_and_then (at_most most_scratch) (number_after (bytes "scratch ") l)))
+    (option_or (option_map Calls.RunWords (option_and_then (at_most most_run) (number_after (bytes "run words ") l)))
+    (option_or (alone (bytes "report") Calls.Report l) (alone (bytes "places") Calls.Places l)))))))
 
 -- ── a line
 abbrev pub asked_length : List ℕ → ℕ
 asked_length l = before (bytes " -> ") l
 
-unfoldable pub line_in : List ℕ → CallLine
+unfoldable pub line_in : List ℕ → Option CallLine
 line_in l = call_in (take (asked_length l) l)
 
 -- ── the log
@@ -111,21 +75,10 @@ line_in l = call_in (take (asked_length l) l)
 abbrev pub line_length : List ℕ → ℕ
 line_length l = before (10 ∷ []) l
 
-unfoldable pub is_wrong : CallLine → Bool
-is_wrong (Calls.Start n) = false
-is_wrong (Calls.Step n) = false
-is_wrong (Calls.Run n) = false
-is_wrong Calls.Report = false
-is_wrong Calls.Places = false
-is_wrong (Calls.Name n) = false
-is_wrong (Calls.Scratch n) = false
-is_wrong (Calls.RunWords n) = false
-is_wrong Calls.Wrong = true
-
 -- the first line is the one sought: ---, or one that is no call
 unfoldable pub is_sought : Sought → List ℕ → Bool
 is_sought Rule l = eqb (line_length l) 3 && begins (bytes "---") l
-is_sought NoCall l = is_wrong (line_in (take (line_length l) l))
+is_sought NoCall l = is_none (line_in (take (line_length l) l))
 
 abbrev pub is_feed : ℕ → Bool
 is_feed b = eqb b 10

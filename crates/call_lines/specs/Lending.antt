@@ -1,19 +1,14 @@
 -- How much of its slices a caller lends: never more than it has.
-use Rattle.std.specs.Prelude.{ℕ, ◌≤◌, ◌≡◌, List, Bool, cond, drop}
+use Rattle.std.specs.Prelude.{ℕ, ◌≤◌, ◌≡◌, List, Bool, true, false, cond, leb, take, Option, Some, None, option_map, option_and_then}
+use Rattle.std.specs.Option.{option_or}
+use Rattle.std.specs.Str.{bytes_eq}
 use Rattle.std.proofs.Math.Path.{refl, subst}
-use Rattle.std.proofs.Common.{sym, arith}
-use Rattle.std.proofs.Math.Bool.{true, false}
-use Rattle.std.proofs.Math.Dec.{leb}
-use Rattle.std.proofs.Math.ListN.{take}
-use borrow.Author.Tests.{leb-true}
+use Rattle.std.proofs.Common.{sym, arith, leb-true}
+use Rattle.notation.specs.Bytes.{bytes}
 use Rattle.notation.specs.Limits.{scratch_words, run_words}
-use Rattle.call_lines.specs.CallLine.{most_scratch, most_run, numbered, alone, made, word_in, word_length, number_in, asked_length, line_in}
+use Rattle.call_lines.specs.CallLine.{number_after, most_scratch, most_run, at_most, alone, call_in, asked_length, line_in}
 use Rattle.call_lines.specs.declared.lines.CallLine.{CallLine}
 use Rattle.call_lines.specs.declared.lines.CallLine.TheVariants as Calls
-use Rattle.call_lines.specs.declared.lines.Word.{Word}
-use Rattle.call_lines.specs.declared.lines.Word.TheVariants.{Start, Step, RunWords, Run, Name, Scratch, Report, Places, Other}
-use Rattle.call_lines.specs.declared.numbers.Number.{Number}
-use Rattle.call_lines.specs.declared.numbers.Number.TheVariants.{Of, Missing, Malformed}
 use Rattle.call_lines.specs.declared.lending.Lent.{Lent}
 
 abbrev pub lent_at_first : Lent
@@ -28,7 +23,6 @@ lent_after Calls.Places k = k
 lent_after (Calls.Name n) k = k
 lent_after (Calls.Scratch n) k = record { scratch = n; run = k.run }
 lent_after (Calls.RunWords n) k = record { scratch = k.scratch; run = n }
-lent_after Calls.Wrong k = k
 
 pub record Lendable (k : Lent) : Type 0 where
   pub scratch : k.scratch ≤ most_scratch
@@ -37,48 +31,49 @@ pub record Lendable (k : Lent) : Type 0 where
 pub lendable_first : {k : Lent} → k ≡ lent_at_first → Lendable k
 lendable_first e = subst Lendable (sym e) (record { scratch = omega arith; run = omega arith })
 
--- ── what a line lends
-module _ {k : Lent} (h : Lendable k) where
-  numbered_lends : (word : Word) (n : ℕ) → Lendable (lent_after (numbered word n) k)
-  unfolding numbered lent_after
-  numbered_lends Start n = h
-  numbered_lends Step n = h
-  numbered_lends RunWords n = go (leb n most_run) refl
+-- ── what a line lends, if it asks for something
+abbrev lends_by : Lent → Option CallLine → Type 0
+lends_by k (Some c) = Lendable (lent_after c k)
+lends_by k None = Unit {0}
+
+record Lends (k : Lent) (r : Option CallLine) : Type 0 where
+  pub is : lends_by k r
+
+lends_none : {k : Lent} → Lends k None
+lends_none = record { is = tt }
+
+either_lends : {k : Lent} {r q : Option CallLine} → Lends k r → Lends k q → Lends k (option_or r q)
+either_lends {r = Some c} g h = g
+either_lends {r = None} g h = h
+
+module _ {k : Lent} where
+  number_lends : (f : ℕ → CallLine) → ((n : ℕ) → Lendable (lent_after (f n) k)) → (r : Option ℕ) → Lends k (option_map f r)
+  number_lends f h (Some n) = record { is = h n }
+  number_lends f h None = lends_none
+
+  few_lends : (f : ℕ → CallLine) (most : ℕ) → ((n : ℕ) → n ≤ most → Lendable (lent_after (f n) k)) → (r : Option ℕ) → Lends k (option_map f (option_and_then (at_most most) r))
+  few_lends f most h (Some n) = by (leb n most) refl
     where
-      go : (b : Bool) → leb n most_run ≡ b → Lendable (lent_after (cond b (Calls.RunWords n) Calls.Wrong) k)
-      go true e = record { scratch = h.scratch; run = leb-true n most_run e }
-      go false e = h
-  numbered_lends Run n = h
-  numbered_lends Name n = h
-  numbered_lends Scratch n = go (leb n most_scratch) refl
-    where
-      go : (b : Bool) → leb n most_scratch ≡ b → Lendable (lent_after (cond b (Calls.Scratch n) Calls.Wrong) k)
-      go true e = record { scratch = leb-true n most_scratch e; run = h.run }
-      go false e = h
-  numbered_lends Report n = h
-  numbered_lends Places n = h
-  numbered_lends Other n = h
+      by : (b : Bool) → leb n most ≡ b → Lends k (option_map f (cond b (Some n) None))
+      by true e = record { is = h n (leb-true n most e) }
+      by false e = lends_none
+  few_lends f most h None = lends_none
 
-  alone_lends : (word : Word) → Lendable (lent_after (alone word) k)
-  unfolding alone lent_after
-  alone_lends Start = h
-  alone_lends Step = h
-  alone_lends RunWords = h
-  alone_lends Run = h
-  alone_lends Name = h
-  alone_lends Scratch = h
-  alone_lends Report = h
-  alone_lends Places = h
-  alone_lends Other = h
+  word_lends : (c : CallLine) → Lendable (lent_after c k) → (b : Bool) → Lends k (cond b (Some c) None)
+  word_lends c h true = record { is = h }
+  word_lends c h false = lends_none
 
-  made_lends : (word : Word) (number : Number) → Lendable (lent_after (made word number) k)
-  unfolding made lent_after
-  made_lends word (Of n) = numbered_lends word n
-  made_lends word Missing = alone_lends word
-  made_lends word Malformed = h
+  call_lends : Lendable k → (l : List ℕ) → Lends k (call_in l)
+  unfolding call_in lent_after
+  call_lends h l =
+      either_lends (number_lends Calls.Start (λ n. h) (number_after (bytes "start ") l))
+      (either_lends (number_lends Calls.Step (λ n. h) (number_after (bytes "step ") l))
+      (either_lends (number_lends Calls.Run (λ n. h) (number_after (bytes "run ") l))
+      (either_lends (number_lends Calls.Name (λ n. h) (number_after (bytes "name ") l))
+      (either_lends (few_lends Calls.Scratch most_scratch (λ n m. record { scratch = m; run = h.run }) (number_after (bytes "scratch ") l))
+      (either_lends (few_lends Calls.RunWords most_run (λ n m. record { scratch = h.scratch; run = m }) (number_after (bytes "run words ") l))
+      (either_lends (word_lends Calls.Report h (bytes_eq l (bytes "report"))) (word_lends Calls.Places h (bytes_eq l (bytes "places")))))))))
 
-  pub line_lends : (l : List ℕ) {call : CallLine} {next : Lent} → call ≡ line_in l → next ≡ lent_after call k → Lendable next
+  pub line_lends : Lendable k → (l : List ℕ) {call : CallLine} {next : Lent} → Some call ≡ line_in l → next ≡ lent_after call k → Lendable next
   unfolding line_in
-  line_lends l {call} {next} e f =
-      let q = take (asked_length l) l in
-      subst Lendable (sym f) (subst (λ c. Lendable (lent_after c k)) (sym e) (made_lends (word_in q) (number_in (drop (word_length (word_in q)) q))))
+  line_lends h l e f = subst Lendable (sym f) (subst (Lends k) (sym e) (call_lends h (take (asked_length l) l))).is

@@ -1,44 +1,14 @@
 // The calls of the entries that the lines of a log ask for, and the words of their answers.
-ghost use Rattle.std.specs.Prelude.{[], ◌≡◌, ◌≤◌, length, take};
-ghost use Rattle.interpreter.specs.Entries.{counted, places_counted, to_start, to_step, to_run_on, to_report, to_places, to_name};
+ghost use Rattle.std.specs.Prelude.{[], ◌≤◌, length};
+ghost use Rattle.interpreter.specs.Entries.{to_start, to_step, to_run_on, to_report, to_places, to_name};
 ghost use Rattle.call_lines.specs.Answering.{answer_room, Answered, LineAnswered};
 
 use crate::lines::CallLine;
-use calculus::answers::{Reported, Surveyed};
 use interpreter::entries::{exec_name, places, report, run_on, start, step};
 use print_answers::answers::{
     put_named, put_ran_on, put_reported, put_started, put_stepped, put_surveyed,
 };
 use print_bytes::writing::put;
-
-// The first n words, or all where there are fewer.
-fn first(words: &[u32], n: usize) -> &[u32]
-    ensures result_value { result.now ≡ take n words.now }
-    ensures result_in_bounds { length result.now ≤ length words.now }
-{
-    if n < words.len() {
-        return &words[..n];
-    }
-    words
-}
-
-fn count_open(answer: Reported) -> usize
-    ensures { result ≡ counted answer }
-{
-    match answer {
-        Reported::Open(n) => return n as usize,
-        Reported::Refused(_, _) => return 0,
-    }
-}
-
-fn count_places(answer: Surveyed) -> usize
-    ensures { result ≡ places_counted answer }
-{
-    match answer {
-        Surveyed::Processes(n) => return n as usize,
-        Surveyed::Refused(_, _) => return 0,
-    }
-}
 
 fn call_start(text: &[u8], scratch: &mut [u32], run: &mut [u32], n: u32, out: &mut [u8]) -> usize
     requires { answer_room text.now ≤ length out.old }
@@ -68,22 +38,16 @@ fn call_report(text: &[u8], scratch: &mut [u32], run: &[u32], out: &mut [u8]) ->
     requires { answer_room text.now ≤ length out.old }
     ensures { Answered text.now to_report scratch.old run.now scratch.new run.now out.old out.new result }
 {
-    let r = report(text, scratch, run);
-    let answer = r.answer;
-    let numbers = r.numbers;
-    let n = count_open(answer);
-    put_reported(out, 0, answer, first(&numbers, n))
+    let answer = report(text, scratch, run);
+    put_reported(out, 0, &answer)
 }
 
 fn call_places(text: &[u8], scratch: &mut [u32], run: &[u32], out: &mut [u8]) -> usize
     requires { answer_room text.now ≤ length out.old }
     ensures { Answered text.now to_places scratch.old run.now scratch.new run.now out.old out.new result }
 {
-    let r = places(text, scratch, run);
-    let answer = r.answer;
-    let steps = r.steps;
-    let n = count_places(answer);
-    put_surveyed(out, 0, answer, first(&steps, n))
+    let answer = places(text, scratch, run);
+    put_surveyed(out, 0, &answer)
 }
 
 fn call_name(text: &[u8], scratch: &mut [u32], line: u32, out: &mut [u8]) -> usize
@@ -109,14 +73,12 @@ pub fn answer_line(
     ensures upper_bound { result ≤ length out.new }
 {
     match call {
-        CallLine::Start(n) => return call_start(text, scratch, run, n, out),
-        CallLine::Step(n) => return call_step(text, scratch, run, n, out),
-        CallLine::Run(n) => return call_run_on(text, scratch, run, n, out),
-        CallLine::Report => return call_report(text, scratch, run, out),
-        CallLine::Places => return call_places(text, scratch, run, out),
-        CallLine::Name(n) => return call_name(text, scratch, n, out),
-        CallLine::Scratch(_) => return put(out, 0, b"lent"),
-        CallLine::RunWords(_) => return put(out, 0, b"lent"),
-        CallLine::Wrong => return 0,
+        CallLine::Start(n) => call_start(text, scratch, run, n, out),
+        CallLine::Step(n) => call_step(text, scratch, run, n, out),
+        CallLine::Run(n) => call_run_on(text, scratch, run, n, out),
+        CallLine::Report => call_report(text, scratch, run, out),
+        CallLine::Places => call_places(text, scratch, run, out),
+        CallLine::Name(n) => call_name(text, scratch, n, out),
+        CallLine::Scratch(_) | CallLine::RunWords(_) => put(out, 0, b"lent"),
     }
 }

@@ -21,24 +21,19 @@ pub fn lent_at_first() -> Lent
 }
 
 // What is lent after a line.
+#[tactic(auto, unfolding(crate::specs::Lending::lent_after))]
 pub fn lend(lent: Lent, call: CallLine) -> Lent
     ensures { result ≡ lent_after call lent }
 {
     match call {
-        CallLine::Start(_) => return lent,
-        CallLine::Step(_) => return lent,
-        CallLine::Run(_) => return lent,
-        CallLine::Report => return lent,
-        CallLine::Places => return lent,
-        CallLine::Name(_) => return lent,
-        CallLine::Scratch(n) => return Lent {
+        CallLine::Scratch(n) => Lent {
             scratch: n as usize,
-            run: lent.run,
+            ..lent
         },
-        CallLine::RunWords(n) => return Lent {
-            scratch: lent.scratch,
+        CallLine::RunWords(n) => Lent {
             run: n as usize,
+            ..lent
         },
-        CallLine::Wrong => return lent,
+        _ => lent,
     }
 }

@@ -1,9 +1,9 @@
 // What a line of a log asks for.
 ghost use Rattle.std.specs.Prelude.{◌≡◌, ◌≤◌, length};
-ghost use Rattle.call_lines.specs.CallLine.{later_word, word_in, word_length, numbered, alone, made, call_in, asked_length, line_in};
+ghost use Rattle.call_lines.specs.CallLine.{number_after, call_in, asked_length, line_in};
 
-use crate::numbers::{Number, number_in};
-use crate::words::{after, begins_with, length_before};
+use crate::numbers::number_in;
+use crate::words::length_before;
 
 // A call with its number, or what is lent from there on, in words.
 #[derive(Clone, Copy)]
@@ -16,7 +16,6 @@ pub enum CallLine {
     Name(u32),
     Scratch(u32),
     RunWords(u32),
-    Wrong,
 }
 
 impl CallLine {
@@ -26,132 +25,47 @@ impl CallLine {
     pub const MOST_RUN: u32 = 8192;
 }
 
-// What a line begins with; a number follows all but the last three.
-#[derive(Clone, Copy)]
-enum Word {
-    Start,
-    Step,
-    RunWords,
-    Run,
-    Name,
-    Scratch,
-    Report,
-    Places,
-    Other,
-}
-
-// The words whose tests come last.
-fn later_word(asked: &[u8]) -> Word
-    ensures { result ≡ later_word asked.now }
+// The number that follows the word, where nothing else stands there.
+#[tactic(auto, using(crate::specs::Reading::front_is), unfolding(crate::specs::CallLine::number_after))]
+fn number_after(asked: &[u8], word: &[u8]) -> Option<u32>
+    ensures { result ≡ number_after word.now asked.now }
 {
-    if begins_with(asked, b"name ") {
-        return Word::Name;
-    }
-    if begins_with(asked, b"scratch ") {
-        return Word::Scratch;
-    }
-    if begins_with(asked, b"report") {
-        return Word::Report;
-    }
-    if begins_with(asked, b"places") {
-        return Word::Places;
-    }
-    Word::Other
+    number_in(asked.strip_prefix(word)?)
 }
 
-fn word_in(asked: &[u8]) -> Word
-    ensures { result ≡ word_in asked.now }
-{
-    if begins_with(asked, b"start ") {
-        return Word::Start;
-    }
-    if begins_with(asked, b"step ") {
-        return Word::Step;
-    }
-    if begins_with(asked, b"run words ") {
-        return Word::RunWords;
-    }
-    if begins_with(asked, b"run ") {
-        return Word::Run;
-    }
-    later_word(asked)
-}
-
-fn word_length(word: Word) -> usize
-    ensures { result ≡ word_length word }
-{
-    match word {
-        Word::Start => return 6,
-        Word::Step => return 5,
-        Word::RunWords => return 10,
-        Word::Run => return 4,
-        Word::Name => return 5,
-        Word::Scratch => return 8,
-        Word::Report => return 6,
-        Word::Places => return 6,
-        Word::Other => return 0,
-    }
-}
-
-fn numbered(word: Word, n: u32) -> CallLine
-    ensures { result ≡ numbered word n }
-{
-    match word {
-        Word::Start => return CallLine::Start(n),
-        Word::Step => return CallLine::Step(n),
-        Word::RunWords => {
-            if n <= CallLine::MOST_RUN {
-                return CallLine::RunWords(n);
-            }
-            return CallLine::Wrong;
-        }
-        Word::Run => return CallLine::Run(n),
-        Word::Name => return CallLine::Name(n),
-        Word::Scratch => {
-            if n <= CallLine::MOST_SCRATCH {
-                return CallLine::Scratch(n);
-            }
-            return CallLine::Wrong;
-        }
-        Word::Report => return CallLine::Wrong,
-        Word::Places => return CallLine::Wrong,
-        Word::Other => return CallLine::Wrong,
-    }
-}
-
-fn alone(word: Word) -> CallLine
-    ensures { result ≡ alone word }
-{
-    match word {
-        Word::Start => return CallLine::Wrong,
-        Word::Step => return CallLine::Wrong,
-        Word::RunWords => return CallLine::Wrong,
-        Word::Run => return CallLine::Wrong,
-        Word::Name => return CallLine::Wrong,
-        Word::Scratch => return CallLine::Wrong,
-        Word::Report => return CallLine::Report,
-        Word::Places => return CallLine::Places,
-        Word::Other => return CallLine::Wrong,
-    }
-}
-
-fn made(word: Word, number: Number) -> CallLine
-    ensures { result ≡ made word number }
-{
-    match number {
-        Number::Of(n) => return numbered(word, n),
-        Number::Missing => return alone(word),
-        Number::Malformed => return CallLine::Wrong,
-    }
-}
-
-fn read_call(asked: &[u8]) -> CallLine
+#[tactic(auto, using(std::proofs::lemmas::Bool::Decides::nat_tests), unfolding(crate::specs::CallLine::call_in))]
+fn read_call(asked: &[u8]) -> Option<CallLine>
     ensures { result ≡ call_in asked.now }
 {
-    let word = word_in(asked);
-    let n = word_length(word);
-    let number = number_in(after(asked, n));
-    made(word, number)
+    if let Some(n) = number_after(asked, b"start ") {
+        return Some(CallLine::Start(n));
+    }
+    if let Some(n) = number_after(asked, b"step ") {
+        return Some(CallLine::Step(n));
+    }
+    if let Some(n) = number_after(asked, b"run ") {
+        return Some(CallLine::Run(n));
+    }
+    if let Some(n) = number_after(asked, b"name ") {
+        return Some(CallLine::Name(n));
+    }
+    if let Some(n) = number_after(asked, b"scratch ")
+        && n <= CallLine::MOST_SCRATCH
+    {
+        return Some(CallLine::Scratch(n));
+    }
+    if let Some(n) = number_after(asked, b"run words ")
+        && n <= CallLine::MOST_RUN
+    {
+        return Some(CallLine::RunWords(n));
+    }
+    if asked == b"report".as_slice() {
+        return Some(CallLine::Report);
+    }
+    if asked == b"places".as_slice() {
+        return Some(CallLine::Places);
+    }
+    None
 }
 
 // How many bytes of a line stand before the answer that follows them, if one does.
@@ -162,9 +76,9 @@ pub fn asked_length(line: &[u8]) -> usize
     length_before(line, b" -> ")
 }
 
-pub fn read_line(line: &[u8]) -> CallLine
+#[tactic(auto, unfolding(crate::specs::CallLine::line_in))]
+pub fn read_line(line: &[u8]) -> Option<CallLine>
     ensures { result ≡ line_in line.now }
 {
-    let n = asked_length(line);
-    read_call(&line[..n])
+    read_call(&line[..asked_length(line)])
 }

@@ -12,6 +12,7 @@ pub struct Position {
 const LINE_FEED: u8 = b'\n';
 
 // Neither number passes the bytes gone over by more than one, and a slice has fewer than 2 ^ 63.
+#[tactic(auto, unfolding(crate::specs::Position::advanced))]
 fn advanced(p: Position, b: u8) -> Position
     requires line_bound { p.line ≤ 2 ^ 63 }
     requires column_bound { p.column ≤ 2 ^ 63 }
@@ -34,10 +35,8 @@ fn after(part: &[u8]) -> Position
     ensures { result ≡ along part.now first }
 {
     let mut p = Position { line: 1, column: 1 };
-    let mut i = 0;
-    while i < part.len() {
-        p = advanced(p, part[i]);
-        i += 1;
+    for b in part {
+        p = advanced(p, *b);
     }
     p
 }
@@ -46,8 +45,5 @@ fn after(part: &[u8]) -> Position
 pub fn position_at(text: &[u8], at: usize) -> Position
     ensures { result ≡ position_at text.now at }
 {
-    if at < text.len() {
-        return after(&text[0..at]);
-    }
-    after(text)
+    after(&text[..at.min(text.len())])
 }

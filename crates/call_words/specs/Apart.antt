@@ -1,9 +1,8 @@
 -- The words of an answer tell its number and its values: so two calls of a text that ask the same, and are told the same words, have one answer.
-use Rattle.std.specs.Prelude.{ℕ, zero, suc, ◌+◌, ◌≤◌, ◌≡◌, refl, List, [], ◌∷◌, ◌++◌, false, length, get_or, take, drop}
-use Rattle.std.proofs.Common.{arith, sym, ◌∙◌, ap, subst, append_assoc, true≢false, lt-ltb, take_at}
+use Rattle.std.specs.Prelude.{ℕ, zero, suc, ◌+◌, ◌≤◌, ◌≡◌, refl, List, [], ◌∷◌, ◌++◌, length, get_or, take, drop, Ok}
+use Rattle.std.proofs.Common.{arith, sym, ◌∙◌, ap, subst, append_assoc, lt-ltb, take_at}
 use Rattle.notation.specs.Limits.{text_limit}
-use Rattle.calculus.specs.Answers.{Told, seen_values, started_as, stepped_as, ran_on_as, reported_as, surveyed_as}
-use Rattle.calculus.specs.Demands.{is_refused}
+use Rattle.calculus.specs.Answers.{Told, seen_values, started_as, stepped_as, ran_on_as, counted_as}
 use Rattle.calculus.specs.Machine.{Answer, stepped, ran_on, name_given}
 use Rattle.calculus.specs.declared.answers.Seen.{Seen}
 use Rattle.calculus.specs.declared.answers.Seen.TheVariants.{Nothing, Label, Close, Passed, Cancelled}
@@ -60,7 +59,7 @@ unfolding as_word
 as_word_lem n h = rw (lt-ltb n 4294967295 (omega (arith, h)))
 
 refusal_told : (s : List ℕ) (q : Request) (k i : ℕ) → 1 ≤ k → i ≤ text_limit → ToldAs s q (refusal_to q k i)
-unfolding words_of started_as stepped_as ran_on_as reported_as surveyed_as
+unfolding words_of started_as stepped_as ran_on_as counted_as
 refusal_told s q zero i h b = absurd (omega (arith, h))
 refusal_told s (to_start line) (suc k) i h b = ap (λ j. record { refusal = suc k; values = j ∷ [] }) (as_word_lem i b)
 refusal_told s (to_step place) (suc k) i h b = ap (λ j. record { refusal = suc k; values = j ∷ [] }) (as_word_lem i b)
@@ -69,7 +68,7 @@ refusal_told s to_report (suc k) i h b = ap (λ j. record { refusal = suc k; val
 refusal_told s to_places (suc k) i h b = ap (λ j. record { refusal = suc k; values = j ∷ [] }) (as_word_lem i b)
 refusal_told s (to_name line) (suc k) i h b = ap (λ j. record { refusal = suc k; values = j ∷ [] }) (as_word_lem i b)
 
-step_told : (s : List ℕ) (place : ℕ) (seen : Seen) → ToldAs s (to_step place) (stepped (steps.Carried seen))
+step_told : (s : List ℕ) (place : ℕ) (seen : Seen) → ToldAs s (to_step place) (stepped (Ok (steps.Carried seen)))
 unfolding words_of stepped_as seen_values
 step_told s place Nothing = refl
 step_told s place (Label n at) = refl
@@ -77,7 +76,7 @@ step_told s place (Close n) = refl
 step_told s place (Passed n m gone) = refl
 step_told s place (Cancelled n) = refl
 
-shown_told : (s : List ℕ) (budget t : ℕ) (seen : Seen) → ToldAs s (to_run_on budget) (ran_on (runs.Shown seen t))
+shown_told : (s : List ℕ) (budget t : ℕ) (seen : Seen) → ToldAs s (to_run_on budget) (ran_on (Ok (runs.Shown seen t)))
 unfolding words_of ran_on_as seen_values
 shown_told s budget t Nothing = refl
 shown_told s budget t (Label n at) = refl
@@ -85,14 +84,13 @@ shown_told s budget t (Close n) = refl
 shown_told s budget t (Passed n m gone) = refl
 shown_told s budget t (Cancelled n) = refl
 
-ran_told : (s : List ℕ) (budget : ℕ) (a : RanOn) → is_refused (ran_on a) ≡ false → ToldAs s (to_run_on budget) (ran_on a)
+ran_told : (s : List ℕ) (budget : ℕ) (a : RanOn) → ToldAs s (to_run_on budget) (ran_on (Ok a))
 unfolding words_of ran_on_as
-ran_told s budget (runs.Shown seen t) e = shown_told s budget t seen
-ran_told s budget (runs.Done t) e = refl
-ran_told s budget (runs.Full t) e = refl
-ran_told s budget (runs.Stopped t) e = refl
-ran_told s budget (runs.Uncaught t) e = refl
-ran_told s budget (runs.Refused n i) e = absurd (true≢false e)
+ran_told s budget (runs.Shown seen t) = shown_told s budget t seen
+ran_told s budget (runs.Done t) = refl
+ran_told s budget (runs.Full t) = refl
+ran_told s budget (runs.Stopped t) = refl
+ran_told s budget (runs.Uncaught t) = refl
 
 -- a list that is followed by something, from its count on
 listed_first : (l z : List ℕ) → take (length l) ((l ++ []) ++ z) ≡ l
@@ -114,10 +112,10 @@ abbrev ToldIf : List ℕ → Request → Answer → Type 0
 ToldIf s q a = Standing s q a → ToldAs s q a
 
 given_told : (s : List ℕ) (q : Request) → OfGiven (ToldIf s q) q
-unfolding words_of started_as stepped_as reported_as surveyed_as
+unfolding words_of started_as stepped_as counted_as
 given_told s (to_start line) = λ _. refl
 given_told s (to_step place) = (λ seen _. step_told s place seen, λ _. refl)
-given_told s (to_run_on budget) = λ a e _. ran_told s budget a e
+given_told s (to_run_on budget) = λ a _. ran_told s budget a
 given_told s to_report = λ l _. ap (λ r. record { refusal = 0; values = length l ∷ r }) (listed_first l _)
 given_told s to_places = λ l _. ap (λ r. record { refusal = 0; values = length l ∷ r }) (listed_first l _)
 given_told s (to_name line) = λ part h. let p = h.part line part 0 refl refl in name_told s part line p.0 p.1

@@ -1,9 +1,9 @@
 -- What the functions for C and Rust promise, one contract for all six. s is the text; w, ws and old are the scratch, run and answer words lent, v, vs and new what they are afterwards, r what is returned.
-use Rattle.std.specs.Prelude.{ℕ, zero, suc, ◌<◌, ◌≤◌, ◌≡◌, refl, List, ◌++◌, length}
+use Rattle.std.specs.Prelude.{ℕ, ◌<◌, ◌≤◌, ◌≡◌, refl, List, ◌++◌, length}
 use Rattle.std.proofs.Common.{◌∙◌, arith}
 use Rattle.std.proofs.Math.Path.{ap}
 use Rattle.std.proofs.Math.ListN.{get_or, drop}
-use Rattle.calculus.specs.Machine.{Answer, name_given}
+use Rattle.calculus.specs.Machine.{Answer}
 use Rattle.interpreter.specs.Entries.{Request, to_start, to_step, to_run_on, to_report, to_places, to_name, called, answer_as, Answers, exec_offset}
 use Rattle.call_words.specs.Words.{answer_words, words_of, padded}
 use Rattle.call_words.specs.Laying.{Tells}
@@ -58,9 +58,3 @@ module _ (s : List ℕ) (q : Request) {w ws old : List ℕ} where
       number = t.first ∙ ap (λ x. get_or x 0 0) e;
     };
   }
-
--- a name that is not refused stands where its line says
-pub name_placed : (s part : List ℕ) (i place number at : ℕ) → (number ≡ 0 → i ≡ place) → padded (words_of s i (name_given part number at)) ≡ padded (words_of s place (name_given part number at))
-unfolding words_of
-name_placed s part i place zero at e = ap (λ j. padded (words_of s j (name_given part 0 at))) (e refl)
-name_placed s part i place (suc n) at e = refl

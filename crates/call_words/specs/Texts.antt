@@ -1,12 +1,12 @@
 -- What the functions promise that tell what a text is made of. s is the text, at an offset; w and old are the scratch and answer words lent, v and new what they are afterwards, r what is returned.
-use Rattle.std.specs.Prelude.{ℕ, ◌<◌, ◌≤◌, ◌≡◌, refl, List, [], ◌∷◌, ◌++◌, length, get_or, drop}
+use Rattle.std.specs.Prelude.{ℕ, ◌<◌, ◌≤◌, ◌≡◌, refl, List, [], ◌∷◌, ◌++◌, length, get_or, drop, Ok, Err}
 use Rattle.std.proofs.Common.{◌∙◌, ap, arith}
 use Rattle.notation.specs.Token.{token_at}
 use Rattle.notation.specs.declared.token.Token.{Token}
 use Rattle.notation.specs.declared.token.Lexeme.{Lexeme}
 use Rattle.read_text.specs.Reading.{TextRead}
-use Rattle.read_text.specs.declared.reading.Reading.{Reading}
-use Rattle.read_text.specs.declared.reading.Reading.TheVariants.{Read, Refused}
+use Rattle.notation.specs.Refusals.{OrRefusal}
+use Rattle.notation.specs.declared.script.Script.{Script}
 use Rattle.call_positions.specs.Position.{position_at}
 use Rattle.call_positions.specs.declared.position.Position.{Position}
 use Rattle.call_words.specs.Words.{answer_words, as_word, padded}
@@ -22,9 +22,9 @@ unfoldable pub token_words : Lexeme → List ℕ
 token_words t = 0 ∷ as_word t.kind ∷ as_word t.start ∷ as_word t.end ∷ []
 
 -- a 0, or the refusal's number and its offset
-unfoldable pub reading_words : Reading → List ℕ
-reading_words (Read script) = 0 ∷ []
-reading_words (Refused n at) = n ∷ as_word at ∷ []
+unfoldable pub reading_words : OrRefusal Script → List ℕ
+reading_words (Ok script) = 0 ∷ []
+reading_words (Err r) = r.number ∷ as_word r.at ∷ []
 
 -- the words stand first in the lent ones, zeros up to 130 follow, and what lies past them is as it was; the first is returned
 pub record Written (words old : List ℕ) (r : ℕ) (new : List ℕ) : Type 0 where
@@ -52,7 +52,7 @@ TokenExported s at = WordsTold (token_words (lexeme (token_at s at)))
 
 -- the reading's own contract holds of scratch and of the reading that is told
 pub record TablesTold (s w old : List ℕ) (r : ℕ) (v new : List ℕ) : Type 0 where
-  pub reading : Reading
+  pub reading : OrRefusal Script
   pub tables : TextRead s w reading v
   pub written : Written (reading_words reading) old r new
 
@@ -73,5 +73,5 @@ module _ {old : List ℕ} where
   pub written : (words : List ℕ) {all new : List ℕ} {r : ℕ} → all ≡ padded words → Tells old new all r → Written words old r new
   written words e t = record { is = t.is ∙ ap (λ x. x ++ drop answer_words old) e; number = t.first ∙ ap (λ x. get_or x 0 0) e }
 
-  pub tables_told : {s w v : List ℕ} {a : Reading} {r : ℕ} {new all : List ℕ} → TextRead s w a v → all ≡ padded (reading_words a) → Tells old new all r → TablesTold s w old r v new
+  pub tables_told : {s w v : List ℕ} {a : OrRefusal Script} {r : ℕ} {new all : List ℕ} → TextRead s w a v → all ≡ padded (reading_words a) → Tells old new all r → TablesTold s w old r v new
   tables_told {a = a} t e u = record { reading = a; tables = t; written = written (reading_words a) e u }

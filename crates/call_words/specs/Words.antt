@@ -1,5 +1,5 @@
 -- The words of an answer, in the order of include/epass.h. s is the text, place where the name of the exec line that is asked for stands.
-use Rattle.std.specs.Prelude.{ℕ, ◌+◌, ◌-◌, List, [], ◌∷◌, ◌++◌, map, cond, ltb, length, replicate}
+use Rattle.std.specs.Prelude.{ℕ, ◌+◌, ◌-◌, List, [], ◌∷◌, ◌++◌, map, cond, ltb, length, replicate, Ok, Err}
 use Rattle.notation.specs.Token.{name_at}
 use Rattle.calculus.specs.Answers.{seen_values}
 use Rattle.calculus.specs.Demands.{is_refused}
@@ -32,15 +32,15 @@ seen_words s seen = seen_values seen ++ label_length s seen
 -- what follows the values of an answer
 abbrev pub more_of : List ℕ → Answer → List ℕ
 more_of s (started a) = []
-more_of s (stepped (steps.Carried seen)) = label_length s seen
-more_of s (stepped steps.Uncaught) = []
-more_of s (stepped (steps.Refused n at)) = []
-more_of s (ran_on (runs.Shown seen t)) = label_length s seen
-more_of s (ran_on (runs.Done t)) = []
-more_of s (ran_on (runs.Full t)) = []
-more_of s (ran_on (runs.Stopped t)) = []
-more_of s (ran_on (runs.Uncaught t)) = []
-more_of s (ran_on (runs.Refused n at)) = []
+more_of s (stepped (Ok (steps.Carried seen))) = label_length s seen
+more_of s (stepped (Ok steps.Uncaught)) = []
+more_of s (stepped (Err e)) = []
+more_of s (ran_on (Ok (runs.Shown seen t))) = label_length s seen
+more_of s (ran_on (Ok (runs.Done t))) = []
+more_of s (ran_on (Ok (runs.Full t))) = []
+more_of s (ran_on (Ok (runs.Stopped t))) = []
+more_of s (ran_on (Ok (runs.Uncaught t))) = []
+more_of s (ran_on (Err e)) = []
 more_of s (reported a l) = []
 more_of s (surveyed a l) = []
 more_of s (name_given part n at) = []

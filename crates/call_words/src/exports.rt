@@ -108,10 +108,8 @@ pub extern "C" fn epass_exec_name(
     if answer.len() < ANSWER_WORDS {
         return ANSWER_SHORT;
     }
-    let mut number: u32 = 0;
-    let mut at: usize = 0;
-    let place = exec_place(text, scratch, line, &mut number, &mut at);
-    tell(answer, name_words(text, place, number, at))
+    let place = exec_place(text, scratch, line);
+    tell(answer, name_words(text, place))
 }
 
 #[unsafe(no_mangle)]

@@ -15,11 +15,7 @@ pub(crate) fn lay(out: &mut [u32], at: usize, what: &[u32])
     requires { at + length what.now ≤ length out.old }
     ensures { Putting out.old out.new at what.now (length what.now) }
 {
-    let mut i = 0;
-    while i < what.len() {
-        out[at + i] = what[i];
-        i += 1;
-    }
+    out[at..at + what.len()].copy_from_slice(what);
 }
 
 // The words of an answer are written, and the first of them, its refusal's number, handed back.

@@ -4,29 +4,31 @@ ghost use Rattle.call_words.specs.Words.{padded};
 ghost use Rattle.call_words.specs.Texts.{PositionExported, TokenExported, TablesExported, position_words, token_words, reading_words};
 
 use crate::laying::{ANSWER_SHORT, ANSWER_WORDS, tell};
-use crate::words::{as_word, few_words, four_words, refused_words};
+use crate::words::{as_word, padded, refused_words};
 use call_positions::position::{Position, position_at};
+use notation::refusal::Refusal;
+use notation::script::Script;
 use notation::token::{Lexeme, next_lexeme};
-use read_text::reading::{Reading, read};
+use read_text::reading::read;
 
 fn position_words(p: Position) -> [u32; ANSWER_WORDS]
     ensures { result ≡ padded (position_words p) }
 {
-    few_words(0, as_word(p.line), as_word(p.column))
+    padded(&[0, as_word(p.line), as_word(p.column)])
 }
 
 fn token_words(t: Lexeme) -> [u32; ANSWER_WORDS]
     ensures { result ≡ padded (token_words t) }
 {
-    four_words(0, as_word(t.kind), as_word(t.start), as_word(t.end))
+    padded(&[0, as_word(t.kind), as_word(t.start), as_word(t.end)])
 }
 
-fn reading_words(r: Reading) -> [u32; ANSWER_WORDS]
+fn reading_words(r: Result<Script, Refusal>) -> [u32; ANSWER_WORDS]
     ensures { result ≡ padded (reading_words r) }
 {
     match r {
-        Reading::Read(_) => return few_words(0, 0, 0),
-        Reading::Refused(n, at) => return refused_words(n, at),
+        Ok(_) => padded(&[0]),
+        Err(e) => refused_words(e),
     }
 }
 

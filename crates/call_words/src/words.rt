@@ -1,16 +1,14 @@
 // The words of each answer: include/epass.h says what each is.
-ghost use Rattle.std.specs.Prelude.{◌≡◌, List, [], ◌∷◌, ℕ, ◌+◌, ◌≤◌, length, get_or};
+ghost use Rattle.std.specs.Prelude.{◌≡◌, List, [], ◌∷◌, ◌++◌, ℕ, ◌+◌, ◌≤◌, length, Ok, Some, IfOk, IfErr};
 ghost use Rattle.notation.specs.Token.{name_at};
-ghost use Rattle.calculus.specs.Machine.{started, stepped, ran_on, name_given};
-ghost use Rattle.calculus.specs.declared.answers.Warned.TheVariants.{Missing};
-ghost use Rattle.interpreter.specs.Entries.{counted, places_counted, report_answer, places_answer};
-ghost use Rattle.call_words.specs.Words.{as_word, seen_words, words_of, padded, filled};
+ghost use Rattle.calculus.specs.Machine.{started, stepped, ran_on};
+ghost use Rattle.interpreter.specs.Entries.{ZerosFrom, report_answer, places_answer, name_placed};
+ghost use Rattle.call_words.specs.Words.{answer_words, as_word, seen_words, words_of, padded, filled};
 ghost use Rattle.call_words.specs.Warned.{warned_words};
 
 use crate::laying::{ANSWER_WORDS, lay};
-use calculus::answers::{
-    Places, RanOn, Report, Reported, Seen, Started, Stepped, Surveyed, Warned,
-};
+use calculus::answers::{Missing, Places, RanOn, Report, Seen, Stepped};
+use notation::refusal::Refusal;
 use notation::token::name_length;
 
 const LAST_WORD: usize = 4294967295;
@@ -41,138 +39,118 @@ fn seen_words(text: &[u8], seen: Seen) -> [u32; 4]
     ensures { result ≡ filled 4 (seen_words text.now seen) }
 {
     match seen {
-        Seen::Nothing => return [0, 0, 0, 0],
-        Seen::Label(n, at) => return [1, n, at, label_length(text, at as usize)],
-        Seen::Close(n) => return [2, n, 0, 0],
-        Seen::Passed(n, m, gone) => return [3, n, m, gone as u32],
-        Seen::Cancelled(n) => return [4, n, 0, 0],
+        Seen::Nothing => [0, 0, 0, 0],
+        Seen::Label(n, at) => [1, n, at, label_length(text, at as usize)],
+        Seen::Close(n) => [2, n, 0, 0],
+        Seen::Passed(n, m, gone) => [3, n, m, gone as u32],
+        Seen::Cancelled(n) => [4, n, 0, 0],
     }
 }
 
-// Two or three words, and zeros after them.
-pub(crate) fn few_words(a: u32, b: u32, c: u32) -> [u32; ANSWER_WORDS]
-    ensures { result ≡ padded (a ∷ b ∷ c ∷ []) }
+// So many words, and zeros after them.
+pub(crate) fn padded(told: &[u32]) -> [u32; ANSWER_WORDS]
+    requires { length told.now ≤ answer_words }
+    ensures { result ≡ padded told.now }
 {
-    let mut words = [0u32; ANSWER_WORDS];
-    words[0] = a;
-    words[1] = b;
-    words[2] = c;
-    words
+    joined(&[], told)
 }
 
-// Four words, and zeros after them.
-pub(crate) fn four_words(a: u32, b: u32, c: u32, d: u32) -> [u32; ANSWER_WORDS]
-    ensures { result ≡ padded (a ∷ b ∷ c ∷ d ∷ []) }
+// Words, others that follow them, and zeros.
+fn joined(first: &[u32], then: &[u32]) -> [u32; ANSWER_WORDS]
+    requires { length first.now + length then.now ≤ answer_words }
+    ensures { result ≡ padded (first.now ++ then.now) }
 {
     let mut words = [0u32; ANSWER_WORDS];
-    words[0] = a;
-    words[1] = b;
-    words[2] = c;
-    words[3] = d;
+    lay(&mut words, 0, first);
+    lay(&mut words, first.len(), then);
     words
 }
 
 // A refusal: its number and its offset.
-pub(crate) fn refused_words(n: u32, at: usize) -> [u32; ANSWER_WORDS]
-    ensures { result ≡ padded (n ∷ as_word at ∷ []) }
+pub(crate) fn refused_words(e: Refusal) -> [u32; ANSWER_WORDS]
+    ensures { result ≡ padded (e.number ∷ as_word e.at ∷ []) }
 {
-    few_words(n, as_word(at), 0)
+    padded(&[e.number, as_word(e.at)])
 }
 
-pub(crate) fn started_words(answer: Started) -> [u32; ANSWER_WORDS]
+pub(crate) fn started_words(answer: Result<(), Refusal>) -> [u32; ANSWER_WORDS]
     ensures { (s : List ℕ) (i : ℕ) → result ≡ padded (words_of s i (started answer)) }
 {
     match answer {
-        Started::Begun => return few_words(0, 0, 0),
-        Started::Refused(n, at) => return refused_words(n, at),
+        Ok(_) => padded(&[0]),
+        Err(e) => refused_words(e),
     }
 }
 
-pub(crate) fn stepped_words(text: &[u8], answer: Stepped) -> [u32; ANSWER_WORDS]
+// A step that was taken.
+fn step_words(text: &[u8], step: Stepped) -> [u32; ANSWER_WORDS]
+    ensures { (i : ℕ) → result ≡ padded (words_of text.now i (stepped (Ok step))) }
+{
+    match step {
+        Stepped::Carried(seen) => joined(&[0], &seen_words(text, seen)),
+        Stepped::Uncaught => padded(&[0, 5]),
+    }
+}
+
+pub(crate) fn stepped_words(text: &[u8], answer: Result<Stepped, Refusal>) -> [u32; ANSWER_WORDS]
     ensures { (i : ℕ) → result ≡ padded (words_of text.now i (stepped answer)) }
 {
     match answer {
-        Stepped::Carried(seen) => {
-            let mut words = [0u32; ANSWER_WORDS];
-            let shown = seen_words(text, seen);
-            lay(&mut words, 1, &shown);
-            return words;
-        }
-        Stepped::Uncaught => return few_words(0, 5, 0),
-        Stepped::Refused(n, at) => return refused_words(n, at),
+        Ok(step) => step_words(text, step),
+        Err(e) => refused_words(e),
     }
 }
 
-// A run-on that ended because of what was seen.
-fn shown_words(text: &[u8], seen: Seen, steps: u32) -> [u32; ANSWER_WORDS]
-    ensures { result ≡ padded (0 ∷ 1 ∷ steps ∷ seen_words text.now seen) }
+// How a run-on ended.
+fn end_words(text: &[u8], end: RanOn) -> [u32; ANSWER_WORDS]
+    ensures { (i : ℕ) → result ≡ padded (words_of text.now i (ran_on (Ok end))) }
 {
-    let mut words = few_words(0, 1, steps);
-    let shown = seen_words(text, seen);
-    lay(&mut words, 3, &shown);
-    words
+    match end {
+        RanOn::Shown(seen, steps) => joined(&[0, 1, steps], &seen_words(text, seen)),
+        RanOn::Done(steps) => padded(&[0, 2, steps]),
+        RanOn::Full(steps) => padded(&[0, 3, steps]),
+        RanOn::Stopped(steps) => padded(&[0, 4, steps]),
+        RanOn::Uncaught(steps) => padded(&[0, 5, steps]),
+    }
 }
 
-pub(crate) fn ran_on_words(text: &[u8], answer: RanOn) -> [u32; ANSWER_WORDS]
+pub(crate) fn ran_on_words(text: &[u8], answer: Result<RanOn, Refusal>) -> [u32; ANSWER_WORDS]
     ensures { (i : ℕ) → result ≡ padded (words_of text.now i (ran_on answer)) }
 {
     match answer {
-        RanOn::Shown(seen, steps) => return shown_words(text, seen, steps),
-        RanOn::Done(steps) => return few_words(0, 2, steps),
-        RanOn::Full(steps) => return few_words(0, 3, steps),
-        RanOn::Stopped(steps) => return few_words(0, 4, steps),
-        RanOn::Uncaught(steps) => return few_words(0, 5, steps),
-        RanOn::Refused(n, at) => return refused_words(n, at),
+        Ok(end) => end_words(text, end),
+        Err(e) => refused_words(e),
     }
 }
 
-// A count, and the list that it is of.
-fn listed_words(count: u32, list: &[u32]) -> [u32; ANSWER_WORDS]
-    requires { length list.now ≤ 128 }
-    ensures { result ≡ padded (0 ∷ count ∷ list.now) }
-{
-    let mut words = few_words(0, count, 0);
-    lay(&mut words, 2, list);
-    words
-}
-
-pub(crate) fn report_words(report: Report) -> [u32; ANSWER_WORDS]
-    requires { (k : ℕ) → counted report.answer ≤ k → get_or report.numbers k 0 ≡ 0 }
+pub(crate) fn report_words(report: Result<Report, Refusal>) -> [u32; ANSWER_WORDS]
+    requires { IfOk report (λ r. ZerosFrom r.open r.numbers) }
     ensures { (s : List ℕ) (i : ℕ) → result ≡ padded (words_of s i (report_answer report)) }
 {
-    let answer = report.answer;
-    match answer {
-        Reported::Open(n) => {
-            let numbers = report.numbers;
-            return listed_words(n, &numbers);
-        }
-        Reported::Refused(n, at) => return refused_words(n, at),
+    match report {
+        Ok(r) => joined(&[0, r.open], &r.numbers),
+        Err(e) => refused_words(e),
     }
 }
 
-pub(crate) fn places_words(places: Places) -> [u32; ANSWER_WORDS]
-    requires { (k : ℕ) → places_counted places.answer ≤ k → get_or places.steps k 0 ≡ 0 }
+pub(crate) fn places_words(places: Result<Places, Refusal>) -> [u32; ANSWER_WORDS]
+    requires { IfOk places (λ p. ZerosFrom p.processes p.steps) }
     ensures { (s : List ℕ) (i : ℕ) → result ≡ padded (words_of s i (places_answer places)) }
 {
-    let answer = places.answer;
-    match answer {
-        Surveyed::Processes(n) => {
-            let steps = places.steps;
-            return listed_words(n, &steps);
-        }
-        Surveyed::Refused(n, at) => return refused_words(n, at),
+    match places {
+        Ok(p) => joined(&[0, p.processes], &p.steps),
+        Err(e) => refused_words(e),
     }
 }
 
-// The name that stands at `place`, or the refusal where its number is not 0.
-pub(crate) fn name_words(text: &[u8], place: usize, number: u32, at: usize) -> [u32; ANSWER_WORDS]
-    ensures { result ≡ padded (words_of text.now place (name_given (name_at text.now place) number at)) }
+// The name that stands at a place, which is where the line that was asked for says.
+pub(crate) fn name_words(text: &[u8], place: Result<usize, Refusal>) -> [u32; ANSWER_WORDS]
+    ensures { (i : ℕ) → IfOk place (λ at. at ≡ i) → IfErr place (λ e. 1 ≤ e.number) → result ≡ padded (words_of text.now i (name_placed text.now place)) }
 {
-    if number == 0 {
-        let n = name_length(text, place);
-        return few_words(0, as_word(place), as_word(n));
+    match place {
+        Ok(at) => padded(&[0, as_word(at), name_word(text, at)]),
+        Err(e) => refused_words(e),
     }
-    refused_words(number, at)
 }
 
 // The length of the name that stands at `at`.
@@ -183,31 +161,38 @@ fn name_word(text: &[u8], at: usize) -> u32
 }
 
 // A warning: where its three names stand, and how long they are.
-fn missing_words(text: &[u8], process: usize, channel: usize, label: usize) -> [u32; 7]
-    ensures { 0 ∷ result ≡ warned_words text.now (Missing process channel label) }
+fn missing_words(text: &[u8], m: Missing) -> [u32; 7]
+    ensures { 0 ∷ result ≡ warned_words text.now (Ok (Some m)) }
 {
     [
         1,
-        as_word(process),
-        name_word(text, process),
-        as_word(channel),
-        name_word(text, channel),
-        as_word(label),
-        label_length(text, label),
+        as_word(m.process),
+        name_word(text, m.process),
+        as_word(m.channel),
+        name_word(text, m.channel),
+        as_word(m.label),
+        label_length(text, m.label),
     ]
 }
 
-pub(crate) fn warned_words(text: &[u8], answer: Warned) -> [u32; ANSWER_WORDS]
+// The warning that was found, or that there is none.
+fn found_words(text: &[u8], found: Option<Missing>) -> [u32; ANSWER_WORDS]
+    ensures { result ≡ padded (warned_words text.now (Ok found)) }
+{
+    match found {
+        Some(m) => joined(&[0], &missing_words(text, m)),
+        None => padded(&[0, 0]),
+    }
+}
+
+pub(crate) fn warned_words(
+    text: &[u8],
+    answer: Result<Option<Missing>, Refusal>,
+) -> [u32; ANSWER_WORDS]
     ensures { result ≡ padded (warned_words text.now answer) }
 {
     match answer {
-        Warned::Missing(process, channel, label) => {
-            let mut words = [0u32; ANSWER_WORDS];
-            let told = missing_words(text, process, channel, label);
-            lay(&mut words, 1, &told);
-            return words;
-        }
-        Warned::Nothing => return few_words(0, 0, 0),
-        Warned::Refused(n, at) => return refused_words(n, at),
+        Ok(found) => found_words(text, found),
+        Err(e) => refused_words(e),
     }
 }

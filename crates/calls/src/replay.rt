@@ -25,12 +25,18 @@ fn print_answered<W: Write>(
     requires most_scratch_in_bounds { (most_scratch ≤ length scratch.old) × (most_run ≤ length run.old) × (answer_room text.now ≤ length out.old) }
     ensures { IfOk result (λ after. Lendable after) }
 {
-    let call = read_line(line);
-    let asked = asked_length(line);
-    let a = lent.scratch;
-    let b = lent.run;
-    let n = answer_line(text, &mut scratch[..a], &mut run[..b], call, out);
-    to.write_all(&line[..asked])?;
+    // There is none: no line is printed before each is seen to be a call.
+    let Some(call) = read_line(line) else {
+        return Ok(lent);
+    };
+    let n = answer_line(
+        text,
+        &mut scratch[..lent.scratch],
+        &mut run[..lent.run],
+        call,
+        out,
+    );
+    to.write_all(&line[..asked_length(line)])?;
     to.write_all(b" -> ")?;
     to.write_all(&out[..n])?;
     to.write_all(b"\n")?;

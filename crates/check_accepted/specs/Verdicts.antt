@@ -12,8 +12,8 @@ use Rattle.calculus.specs.Machine.{text_checked}
 use Rattle.calculus.specs.Verdict.{fine}
 use Rattle.calculus.specs.Verdict as calculus
 use Rattle.calculus.specs.Verdict.{verdict_of}
-use Rattle.calculus.specs.declared.verdict.Verdict.{Verdict}
-use Rattle.calculus.specs.declared.verdict.Verdict.TheVariants as verdict
+use Rattle.std.specs.Prelude.{Ok}
+use Rattle.notation.specs.Refusals.{OrRefusal, refuses}
 use Rattle.read_tables.specs.Whole.{tables_length}
 use Rattle.check_text.specs.Texts.{verdict_in, words_in, TextChecked}
 use Rattle.check_accepted.specs.Texts.{TextIn}
@@ -42,9 +42,9 @@ pub fine_so : (c : Checked) → fine ≡ verdict_in c → (ds : List Declaration
 fine_so (accepted ds) e = (ds, refl)
 fine_so (faulty n i) e = absurd (subst IsFine e tt)
 
-module _ (s w x : List ℕ) (r : Verdict) (t : TextChecked s w r x) where
+module _ (s w x : List ℕ) (r : OrRefusal (Unit {0})) (t : TextChecked s w r x) where
   -- refused
-  pub text_refused : (n i : ℕ) → r ≡ verdict.Refused n i → text_checked s (length w) ≡ faulty n i
+  pub text_refused : (n i : ℕ) → r ≡ refuses n i → text_checked s (length w) ≡ faulty n i
   unfolding text_checked
   text_refused n i q = go (leb scratch_words (length w)) refl
     where
@@ -53,7 +53,7 @@ module _ (s w x : List ℕ) (r : Verdict) (t : TextChecked s w r x) where
       go false e = refused_so (faulty 1 0) n i (ap verdict_of (sym q ∙ (t.short (leb-false scratch_words (length w) e)).0))
 
   -- accepted
-  module _ (q : r ≡ verdict.Fine) where
+  module _ (q : r ≡ (Ok tt)) where
     pub scratch_enough_lem : scratch_words ≤ length w
     scratch_enough_lem = go (leb scratch_words (length w)) refl
       where

@@ -1,11 +1,11 @@
 -- What the code that works by name promises, from the position that its search found.
 use Rattle.std.specs.Prelude.{ℕ, ◌+◌, ◌*◌, ◌<◌, ◌≡◌, refl, List, [], ◌∷◌, ◌++◌, map, get_or, set}
+use Rattle.std.specs.Prelude.{Some, None}
 use Rattle.std.proofs.Common.{sym, ◌∙◌}
 use Rattle.std.proofs.Math.Path.{ap, subst}
 use Rattle.std.proofs.Math.Option.{some, some-injective}
 use native.Mathlib.Omega.{arith}
 use Rattle.std.proofs.Math.ListN.{get_elem?}
-use Rattle.notation.specs.declared.reading.Found.TheVariants as found
 use Rattle.notation.specs.Limits.{type_term_limit}
 use Rattle.calculus.specs.Configuration.{end}
 use Rattle.read_tables.specs.Program.{plain_in}
@@ -18,12 +18,11 @@ use Rattle.run_words.specs.Values.{end_in, held_in, held_length}
 use Rattle.run_words.specs.declared.records.End.{End as EndWords}
 use Rattle.run_words.specs.declared.records.Held.{Held}
 use Rattle.run_words.proofs.Ends.{end_here}
-use Rattle.check_contexts.specs.declared.held.Lookup.TheVariants as lookups
 use Rattle.check_contexts.specs.Held.{end_is, channels_of, held_by, EndIn, retyped_raw, is_named, Sees, Drops, Retypes, RetypesAt, Brings}
 use Rattle.check_contexts.specs.Named.{there_lookup, there_without, there_changed, absent_lookup, absent_without, absent_changed}
 
-module _ (s : List ℕ) (h : Held) (at k : ℕ) (f : first (is_named s at) (held_in h) ≡ found.At k) where
-  pub sees_there : (e : EndWords) → get_elem? (held_in h) k ≡ some (end_in e) → e.side < 2 → Sees s h at (lookups.Found e)
+module _ (s : List ℕ) (h : Held) (at k : ℕ) (f : first (is_named s at) (held_in h) ≡ Some k) where
+  pub sees_there : (e : EndWords) → get_elem? (held_in h) k ≡ some (end_in e) → e.side < 2 → Sees s h at (Some e)
   unfolding channels_of
   sees_there e g b = record {
     is = λ w. there_lookup s w at (first_here (is_named s at) (held_in h) k f g);
@@ -55,8 +54,8 @@ module _ (s : List ℕ) (h : Held) (at k : ℕ) (f : first (is_named s at) (held
             };
       }
 
-module _ (s : List ℕ) (h : Held) (at : ℕ) (f : first (is_named s at) (held_in h) ≡ found.Nothing) where
-  pub sees_nothing : Sees s h at lookups.Nothing
+module _ (s : List ℕ) (h : Held) (at : ℕ) (f : first (is_named s at) (held_in h) ≡ None) where
+  pub sees_nothing : Sees s h at None
   unfolding channels_of
   sees_nothing = record { is = λ w. absent_lookup s w at (held_in h) (none_from (is_named s at) (held_in h) 0 f); fits = λ w t. omega arith }
 
@@ -75,7 +74,7 @@ brings h r e q n b o = record {
   fits = λ s w u t. record { many = omega arith; each = subst (All (EndIn s w)) (sym q) (all_append (EndIn s w) (held_in h) (end_in e ∷ []) t.each (record { bounds = o; type = u }, tt)) };
 }
 
-pub position_below : (s : List ℕ) (h : Held) (at k : ℕ) → first (is_named s at) (held_in h) ≡ found.At k → k < h.count
+pub position_below : (s : List ℕ) (h : Held) (at k : ℕ) → first (is_named s at) (held_in h) ≡ Some k → k < h.count
 position_below s h at k f = omega (arith, first_below (is_named s at) (held_in h) k f, held_length h)
 
 -- what is written over the end that was read is that end with another type

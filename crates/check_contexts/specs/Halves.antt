@@ -5,6 +5,7 @@ use Rattle.std.proofs.Common.{◌∙◌, take_all}
 use native.Mathlib.Omega.{arith}
 use mathlib.Core.List.{List, [], ◌∷◌, ◌++◌, map}
 use Rattle.std.proofs.Math.Bool.{true, false, cond}
+use Rattle.std.specs.Bool.{beq}
 use Rattle.std.proofs.Math.Option.{none-ne-some, some-injective, some}
 use Rattle.std.proofs.lemmas.List.{length-map}
 use Rattle.std.proofs.Math.ListN.{get_elem?}
@@ -129,16 +130,22 @@ pub record Picking (h : Held) (m : Marks) (want : Bool) (r : Held) (k : ℕ) : T
   pub few : r.count ≤ k
   pub is : held_in r ≡ picked (λ i. wanted want (mark_of m i)) 0 (take k (held_in h))
 
+same_wanted : (taken want : Bool) → beq taken want ≡ wanted want taken
+same_wanted true true = refl
+same_wanted true false = refl
+same_wanted false true = refl
+same_wanted false false = refl
+
 module _ {h : Held} {m : Marks} {want : Bool} where
   pub pick_none : (r : Held) → held_in r ≡ [] → r.count ≡ 0 → Picking h m want r 0
   pick_none r e n = record { upto = omega arith; few = omega arith; is = e }
 
   module _ {r : Held} {k : ℕ} (t : Picking h m want r k) where
-    pub pick_next : (e : End) {b : Bool} {r' : Held} → get_elem? (held_in h) k ≡ some (end_in e) → b ≡ wanted want (mark_of m k) → held_in r' ≡ held_in r ++ cond b (end_in e ∷ []) [] → r'.count ≤ r.count + 1
-        → (j : ℕ) → j ≡ k + 1 → Picking h m want r' j
-    pick_next e g p q n j z =
+    pick_next : (e : End) {b : Bool} {r' : Held} → get_elem? (held_in h) k ≡ some (end_in e) → b ≡ wanted want (mark_of m k) → held_in r' ≡ held_in r ++ cond b (end_in e ∷ []) [] → r'.count ≤ r.count + 1
+        → Picking h m want r' (k + 1)
+    pick_next e g p q n =
         let f : ℕ → Bool = λ i. wanted want (mark_of m i) in
-        let u : suc k ≡ j = omega arith in
+        let u : suc k ≡ k + 1 = omega arith in
         let y : k ≡ 0 + k = omega arith in
         record {
           upto = omega (arith, below_length (held_in h) k g, held_length h);
@@ -146,6 +153,17 @@ module _ {h : Held} {m : Marks} {want : Bool} where
           is = q ∙ (λ i. t.is i ++ cond (p i) (end_in e ∷ []) []) ∙ ap (λ i. picked f 0 (take k (held_in h)) ++ cond (f i) (end_in e ∷ []) []) y
               ∙ sym (picked_next f 0 (held_in h) k g) ∙ ap (λ i. picked f 0 (take i (held_in h))) u;
         }
+
+    -- the end at k goes with what is kept, or does not
+    module _ (e : End) {taken : Bool} (g : get_elem? (held_in h) k ≡ some (end_in e)) (p : taken ≡ mark_of m k) where
+      asked_for : {b : Bool} → beq taken want ≡ b → b ≡ wanted want (mark_of m k)
+      asked_for o = sym o ∙ same_wanted taken want ∙ ap (wanted want) p
+
+      pub pick_kept : beq taken want ≡ true → {r' : Held} → held_in r' ≡ held_in r ++ (end_in e ∷ []) → r'.count ≡ r.count + 1 → Picking h m want r' (k + 1)
+      pick_kept o q n = pick_next e g (asked_for o) q (omega arith)
+
+      pub pick_left : beq taken want ≡ false → Picking h m want r (k + 1)
+      pick_left o = pick_next e g (asked_for o) (sym (append-nil (held_in r))) (omega arith)
 
     pub pick_all : h.count ≤ k → Picks h m want r
     pick_all o = record {

@@ -1,5 +1,7 @@
 -- What a process holds, as the calculus has it: the names are those of the text s, the types those of the tables w.
 use Rattle.std.specs.Prelude.{ℕ, ◌≤◌, ◌<◌, ◌≡◌, List, [], ◌∷◌, ◌++◌, map, Bool, set}
+use Rattle.std.specs.Prelude.{Option as CodeOption, Some, None}
+use Rattle.run_words.specs.declared.records.End.{End as EndWords}
 use Rattle.std.proofs.Math.Option.{Option, some, none}
 use Rattle.std.proofs.Math.ListN.{get_elem?}
 use Rattle.notation.specs.Bytes.{same}
@@ -15,8 +17,6 @@ use Rattle.run_words.specs.Lists.{All}
 use Rattle.run_words.specs.Raw.{RawEnd, BoundedEnd, side_of}
 use Rattle.run_words.specs.Values.{end_in, held_in}
 use Rattle.run_words.specs.declared.records.Held.{Held}
-use Rattle.check_contexts.specs.declared.held.Lookup.{Lookup}
-use Rattle.check_contexts.specs.declared.held.Lookup.TheVariants as lookups
 
 abbrev pub end_is : List ℕ → List ℕ → RawEnd → Name × End
 end_is s w e = (name_at s e.name, end e.side e.channel (plain_in s w e.node))
@@ -43,16 +43,16 @@ pub record HeldIn (s w : List ℕ) (h : Held) : Type 0 where
 
 -- ── what the code promises
 -- what was found, as the calculus has it
-abbrev pub end_found : List ℕ → List ℕ → Lookup → Option End
-end_found s w (lookups.Found e) = some (end_is s w (end_in e)).1
-end_found s w lookups.Nothing = none
+abbrev pub end_found : List ℕ → List ℕ → CodeOption EndWords → Option End
+end_found s w (Some e) = some (end_is s w (end_in e)).1
+end_found s w None = none
 
-abbrev pub FoundIn : List ℕ → List ℕ → Lookup → Type 0
-FoundIn s w (lookups.Found e) = EndIn s w (end_in e) × (e.side < 2)
-FoundIn s w lookups.Nothing = 0 ≤ 0
+abbrev pub FoundIn : List ℕ → List ℕ → CodeOption EndWords → Type 0
+FoundIn s w (Some e) = EndIn s w (end_in e) × (e.side < 2)
+FoundIn s w None = 0 ≤ 0
 
 -- the channel under the name at an offset
-pub record Sees (s : List ℕ) (h : Held) (at : ℕ) (r : Lookup) : Type 0 where
+pub record Sees (s : List ℕ) (h : Held) (at : ℕ) (r : CodeOption EndWords) : Type 0 where
   pub is : (w : List ℕ) → lookup (name_at s at) (channels_of s w h) ≡ end_found s w r
   pub fits : (w : List ℕ) → HeldIn s w h → FoundIn s w r
 

@@ -1,5 +1,5 @@
 -- A filter of names by their first bytes: of what begins with a byte that it excludes, nothing is held.
-use Rattle.std.specs.Prelude.{ℕ, ◌+◌, ◌*◌, ◌/◌, ◌%◌, ◌<◌, ◌≤◌, ◌≡◌, refl, ◌⊎◌, List, Bool, true, false, length, get_or, set, replicate}
+use Rattle.std.specs.Prelude.{ℕ, ◌+◌, ◌*◌, ◌/◌, ◌%◌, ◌<◌, ◌≤◌, ◌≡◌, refl, ◌⊎◌, List, Bool, true, false, ◌&&◌, cond, length, get_or, set, replicate}
 use Rattle.std.proofs.Common.{sym, ◌∙◌, ap, inl, inr, true≢false, arith, eq-or-lt_of_le, get_or-set_same, get_or-set_other}
 use Rattle.std.proofs.lemmas.List.{get_or-replicate}
 use Rattle.notation.specs.Bytes.{name_byte}
@@ -7,7 +7,7 @@ use Rattle.notation.specs.Limits.{held_limit}
 use Rattle.notation.proofs.Names.{Matched, matched_differ}
 use Rattle.run_words.specs.Raw.{end_words, side_radix}
 use Rattle.check_contexts.specs.declared.marks.Marks.{Marks}
-use Rattle.check_contexts.specs.Marks.{held_name, is_name, Marked, Hidden, marked_apart, hidden_apart}
+use Rattle.check_contexts.specs.Marks.{mark_of, held_name, is_name, MarkPut, and_none}
 
 -- first bytes are told apart by this remainder
 abbrev pub initial_radix : ℕ
@@ -34,11 +34,8 @@ module _ {s ends : List ℕ} {n : ℕ} {f : List Bool} (t : Initials s ends n f)
       let m : Matched s there at there at = record { left = refl } in
       sym (matched_differ m p d)
 
-  pub marked_excluded : {sought m : Marks} → Marked s ends n sought (is_name s at) m m
-  marked_excluded = marked_apart not_held
-
-  pub hidden_excluded : {m : Marks} → Hidden s ends n (is_name s at) m m
-  hidden_excluded = hidden_apart not_held
+  pub put_excluded : {sought m : Marks} {mark : Bool} → MarkPut s ends n sought at mark m m
+  put_excluded {sought} {m} {mark} = record { each = λ k l. sym (ap (λ b. cond (mark_of sought k && b) mark (mark_of m k)) (not_held k l) ∙ ap (λ b. cond b mark (mark_of m k)) (and_none (mark_of sought k))) }
 
 -- ── as far as the loop that gathers them has come
 pub initials_none : (s ends : List ℕ) (f : List Bool) → Initials s ends 0 f

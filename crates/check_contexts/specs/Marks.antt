@@ -1,7 +1,10 @@
 -- Marks of what is held: what the code over them promises, position by position.
-use Rattle.std.specs.Prelude.{ℕ, zero, suc, ◌+◌, ◌*◌, ◌/◌, ◌<◌, ◌≤◌, ◌≡◌, refl, ◌⊎◌, List, Bool, true, false, not, ◌||◌, ◌&&◌, T, get_or, replicate}
-use Rattle.std.proofs.Common.{sym, ◌∙◌, ap, subst, inl, inr, true≢false, arith, eq-or-lt_of_le}
+use Rattle.std.specs.Prelude.{ℕ, zero, suc, ◌+◌, ◌*◌, ◌/◌, ◌<◌, ◌≤◌, ◌≡◌, refl, ◌⊎◌, List, Bool, true, false, not, ◌||◌, ◌&&◌, cond, T, length, take, get_or, set, replicate}
+use Rattle.std.proofs.Common.{sym, ◌∙◌, ap, subst, add-one, inl, inr, true≢false, arith, eq-or-lt_of_le, length-set, get_or-set_same, get_or-set_other}
 use Rattle.std.proofs.lemmas.List.{get_or-replicate}
+use Rattle.std.proofs.lemmas.List.Folds.{list_any_more}
+use Rattle.std.specs.Bool.{beq}
+use Rattle.std.specs.List.{list_any}
 use Rattle.notation.specs.Limits.{held_limit}
 use Rattle.notation.specs.Bytes.{same}
 use Rattle.notation.specs.Token.{name_at}
@@ -66,12 +69,16 @@ pub record Marked (s ends : List ℕ) (n : ℕ) (sought : Marks) (test : Name �
 pub record Hidden (s ends : List ℕ) (n : ℕ) (test : Name → Bool) (m r : Marks) : Type 0 where
   pub at : (k : ℕ) → k < n → mark_of r k ≡ mark_of m k && not (test (held_name s ends k))
 
+-- of the first n names, those that are sought and are the name at `at` have the mark `mark`, the others the one that they had
+pub record MarkPut (s ends : List ℕ) (n : ℕ) (sought : Marks) (at : ℕ) (mark : Bool) (m r : Marks) : Type 0 where
+  pub each : (k : ℕ) → k < n → mark_of r k ≡ cond (mark_of sought k && is_name s at (held_name s ends k)) mark (mark_of m k)
+
 -- ── tests of bools
 or_none : (a : Bool) → a ≡ a || false
 or_none true = refl
 or_none false = refl
 
-and_none : (a : Bool) → a && false ≡ false
+pub and_none : (a : Bool) → a && false ≡ false
 and_none true = refl
 and_none false = refl
 
@@ -85,23 +92,9 @@ one_then false true true u = refl
 one_then false true false u = refl
 one_then false false t u = refl
 
-or_true : (a : Bool) → true ≡ a || true
-or_true true = refl
-or_true false = refl
-
--- ── a mark is put or taken away, if b says so
-module _ {m : Marks} {k : ℕ} {b : Bool} where
-  pub marks_so : {r : Marks} → b ≡ true → Puts m k true r → Puts m k (mark_of m k || b) r
-  marks_so e p = record { here = p.here ∙ or_true (mark_of m k) ∙ ap (λ c. mark_of m k || c) (sym e); other = p.other }
-
-  pub marks_not : b ≡ false → Puts m k (mark_of m k || b) m
-  marks_not e = record { here = or_none (mark_of m k) ∙ ap (λ c. mark_of m k || c) (sym e); other = λ j d. refl }
-
-  pub clears_so : {r : Marks} → b ≡ true → Puts m k false r → Puts m k (mark_of m k && not b) r
-  clears_so e p = record { here = p.here ∙ sym (and_none (mark_of m k)) ∙ ap (λ c. mark_of m k && not c) (sym e); other = p.other }
-
-  pub clears_not : b ≡ false → Puts m k (mark_of m k && not b) m
-  clears_not e = record { here = sym (and_all (mark_of m k)) ∙ ap (λ c. mark_of m k && not c) (sym e); other = λ j d. refl }
+-- ── the mark of one position is put
+pub puts_there : {m : Marks} {k : ℕ} (b : Bool) → k < length m.set → Puts m k b (record { set = set m.set k b })
+puts_there {m} {k} b l = record { here = get_or-set_same m.set k b false l; other = λ j d. get_or-set_other m.set k j b false d }
 
 -- ── marking by one test, then by another
 module _ {s ends : List ℕ} {n : ℕ} {sought : Marks} where
@@ -152,36 +145,60 @@ module _ {g : ℕ → Bool} {m : Marks} where
       go j (inl q) = subst (λ l. mark_of v l ≡ g l) (sym q) (p.here ∙ e (t.above k (omega arith)))
       go j (inr q) = p.other j (omega arith) ∙ t.below j q
 
--- ── the loops that mark a name and that hide it
-pub record Marking (s ends : List ℕ) (at : ℕ) (sought m r : Marks) (k : ℕ) : Type 0 where
-  pub upto : Upto (λ j. mark_of m j || (mark_of sought j && is_name s at (held_name s ends j))) m r k
+-- ── the loop that puts the mark of a name
+module _ (s ends : List ℕ) (at : ℕ) (sought : Marks) (mark : Bool) (m : Marks) where
+  abbrev put_to : ℕ → Bool
+  put_to j = cond (mark_of sought j && is_name s at (held_name s ends j)) mark (mark_of m j)
 
-pub record Hiding (s ends : List ℕ) (at : ℕ) (m r : Marks) (k : ℕ) : Type 0 where
-  pub upto : Upto (λ j. mark_of m j && not (is_name s at (held_name s ends j))) m r k
+  pub record Putting (r : Marks) (k : ℕ) : Type 0 where
+    pub long : length r.set ≡ held_limit
+    pub upto : Upto put_to m r k
 
--- what is not marked need not be hidden
-hid : (a b : Bool) → a && not (a && b) ≡ a && not b
-hid true b = refl
-hid false b = refl
+module _ {s ends : List ℕ} {at : ℕ} {sought : Marks} {mark : Bool} {m : Marks} where
+  pub put_none : length m.set ≡ held_limit → Putting s ends at sought mark m m 0
+  put_none l = record { long = l; upto = upto_none }
 
-module _ {s ends : List ℕ} {at : ℕ} {sought m r v : Marks} {k : ℕ} {b : Bool} (i : ℕ) (z : i ≡ k + 1) (e : b ≡ mark_of sought k && is_name s at (held_name s ends k)) where
-  pub mark_next : Marking s ends at sought m r k → Puts r k (mark_of r k || b) v → Marking s ends at sought m v i
-  mark_next t p = record { upto = upto_next t.upto i z p (λ q j. q j || e j) }
+  module _ {r : Marks} {k : ℕ} (t : Putting s ends at sought mark m r k) where
+    module _ {b : Bool} (e : b ≡ mark_of sought k && is_name s at (held_name s ends k)) where
+      pub put_here : b ≡ true → k < held_limit → Putting s ends at sought mark m (record { set = set r.set k mark }) (k + 1)
+      put_here o l = record { long = length-set r.set k mark ∙ t.long; upto = upto_next t.upto (k + 1) refl (puts_there {m = r} mark (omega (arith, t.long))) (λ q. ap (λ c. cond c mark (mark_of m k)) (sym o ∙ e)) }
 
-module _ {s ends : List ℕ} {at : ℕ} {m r v : Marks} {k : ℕ} {b : Bool} (i : ℕ) (z : i ≡ k + 1) (e : b ≡ mark_of m k && is_name s at (held_name s ends k)) where
-  pub hide_next : Hiding s ends at m r k → Puts r k (mark_of r k && not b) v → Hiding s ends at m v i
-  hide_next t p = record { upto = upto_next t.upto i z p (λ q. (λ j. q j && not (e j)) ∙ hid (mark_of m k) (is_name s at (held_name s ends k))) }
+      pub put_not : b ≡ false → Putting s ends at sought mark m r (k + 1)
+      put_not o = record { long = t.long; upto = upto_next t.upto (k + 1) refl (record { here = refl; other = λ j d. refl }) (λ q. q ∙ ap (λ c. cond c mark (mark_of m k)) (sym o ∙ e)) }
 
-pub marked_all : {s ends : List ℕ} {at : ℕ} {sought m r : Marks} {n k : ℕ} → Marking s ends at sought m r k → n ≤ k → Marked s ends n sought (is_name s at) m r
-marked_all t l = record { at = λ j b. t.upto.below j (omega arith) }
+    pub put_all : {n : ℕ} → n ≤ k → MarkPut s ends n sought at mark m r
+    put_all l = record { each = λ j b. t.upto.below j (omega arith) }
 
-pub hidden_all : {s ends : List ℕ} {at : ℕ} {m r : Marks} {n k : ℕ} → Hiding s ends at m r k → n ≤ k → Hidden s ends n (is_name s at) m r
-hidden_all t l = record { at = λ j b. t.upto.below j (omega arith) }
+-- a name is marked where the mark is put, and hidden where it is taken from what is sought
+or_put : (m t : Bool) → cond t true m ≡ m || t
+or_put true true = refl
+or_put true false = refl
+or_put false true = refl
+or_put false false = refl
+
+and_put : (m t : Bool) → cond (m && t) false m ≡ m && not t
+and_put true true = refl
+and_put true false = refl
+and_put false t = refl
+
+module _ {s ends : List ℕ} {n at : ℕ} {m r : Marks} where
+  pub marks_name : {sought : Marks} → MarkPut s ends n sought at true m r → Marked s ends n sought (is_name s at) m r
+  marks_name {sought} p = record { at = λ k b. p.each k b ∙ or_put (mark_of m k) (mark_of sought k && is_name s at (held_name s ends k)) }
+
+  pub hides_name : MarkPut s ends n m at false m r → Hidden s ends n (is_name s at) m r
+  hides_name p = record { at = λ k b. p.each k b ∙ and_put (mark_of m k) (is_name s at (held_name s ends k)) }
 
 -- ── whether anything is sought
-pub any_next : (f : ℕ → Bool) (k i : ℕ) {b : Bool} → i ≡ k + 1 → b ≡ any_of f k || f k → b ≡ any_of f i
+is_true : (b : Bool) → beq b true ≡ b
+is_true true = refl
+is_true false = refl
+
+pub any_set : (l : List Bool) (n : ℕ) → n ≤ length l → list_any (λ b. beq b true) (take n l) ≡ any_of (λ k. get_or l k false) n
 unfolding any_of
-any_next f k i z e = e ∙ ap (any_of f) {x = suc k} {y = i} (omega arith)
+any_set l zero h = refl
+any_set l (suc n) h =
+    let more = list_any_more (λ b. beq b true) l n false (omega arith) in
+    ap (λ i. list_any (λ b. beq b true) (take i l)) (sym (add-one n)) ∙ more ∙ λ j. any_set l n (omega arith) j || is_true (get_or l n false) j
 
 -- nothing is marked where nothing is sought
 pub any_none : (f : ℕ → Bool) (n : ℕ) → any_of f n ≡ false → (k : ℕ) → k < n → f k ≡ false

@@ -1,11 +1,11 @@
 // What each half of a process takes of what is held.
 ghost use Rattle.notation.specs.Limits.{channel_places, held_limit, text_limit, type_term_limit};
-ghost use Rattle.std.specs.Prelude.{◌≡◌, ℕ, ◌+◌, ◌≤◌, ◌<◌, [], ◌∷◌, ◌++◌, cond};
+ghost use Rattle.std.specs.Prelude.{◌≡◌, ◌≤◌, ◌<◌};
 ghost use Rattle.run_words.specs.Lists.{All};
-ghost use Rattle.run_words.specs.Raw.{BoundedEnd, side_of, side_radix};
-ghost use Rattle.run_words.specs.Values.{end_in, held_in};
+ghost use Rattle.run_words.specs.Raw.{BoundedEnd, side_of};
+ghost use Rattle.run_words.specs.Values.{held_in};
 ghost use Rattle.read_tables.specs.Whole.{Tables};
-ghost use Rattle.check_contexts.specs.Halves.{HalfIn, half_side, wanted, fair, Takes, Picks, Divides, HasRoom, SpawnHalf};
+ghost use Rattle.check_contexts.specs.Halves.{HalfIn, half_side, fair, Takes, Picks, Divides, HasRoom, SpawnHalf};
 
 use crate::held::bring_end;
 use crate::initials::held_initials;
@@ -13,7 +13,7 @@ use crate::marks::{Marks, NONE, any_marked, is_marked};
 use crate::mentions::mark_process;
 use crate::names::hide_name;
 use run_words::held::{end_at, no_ends, with};
-use run_words::records::{End, Held, PROVIDED, USED};
+use run_words::records::{Held, PROVIDED, USED};
 
 // A half of a spawn, in which the name at the first offset is a new one, or a half of a try; and its pointer.
 #[derive(Clone, Copy)]
@@ -27,10 +27,7 @@ pub fn side_of(first: bool) -> u32
     ensures result_value { side_of result ≡ half_side first }
     ensures upper_bound { result < 2 }
 {
-    if first {
-        return PROVIDED;
-    }
-    USED
+    if first { PROVIDED } else { USED }
 }
 
 // Which of the held channels that `of` marks the half takes; the walk is spared where none is marked.
@@ -53,40 +50,17 @@ pub fn half_takes(text: &[u8], scratch: &[u32], h: Held, half: Half, of: Marks) 
     }
 }
 
-fn as_wanted(want: bool, taken: bool) -> bool
-    ensures { result ≡ wanted want taken }
-{
-    if want {
-        return taken;
-    }
-    !taken
-}
-
-// With an end more, if it goes with what is kept.
-fn with_if(h: Held, e: End, goes: bool) -> Held
-    requires { (h.count < held_limit) × BoundedEnd (end_in e) × (e.side < side_radix) }
-    ensures result_value { held_in result ≡ held_in h ++ cond goes (end_in e ∷ []) [] }
-    ensures count_bound { result.count ≤ h.count + 1 }
-{
-    if goes {
-        return with(h, e);
-    }
-    h
-}
-
 // What is held and marked, in its order; or, where that is not wanted, what is not marked.
 pub fn keep(h: Held, m: Marks, want: bool) -> Held
     requires { (h.count ≤ held_limit) × All BoundedEnd (held_in h) }
     ensures { Picks h m want result }
 {
-    let n = h.count;
     let mut r = no_ends();
-    let mut k: usize = 0;
-    while k < n {
+    for k in 0..h.count {
         let e = end_at(h, k);
-        let goes = as_wanted(want, is_marked(m, k));
-        r = with_if(r, e, goes);
-        k += 1;
+        if is_marked(m, k) == want {
+            r = with(r, e);
+        }
     }
     r
 }
@@ -95,13 +69,7 @@ pub fn keep(h: Held, m: Marks, want: bool) -> Held
 fn is_fair(exactly: bool, first: bool, second: bool) -> bool
     ensures { result ≡ fair exactly first second }
 {
-    if first {
-        return !second;
-    }
-    if exactly {
-        return second;
-    }
-    true
+    if first { !second } else { second || !exactly }
 }
 
 // None of the first n channels is taken by both halves, and, where it must be exactly one, none by neither.
@@ -109,12 +77,10 @@ pub fn divides(n: usize, first: Marks, second: Marks, exactly: bool) -> bool
     requires { n ≤ held_limit }
     ensures { Divides n first second exactly result }
 {
-    let mut k: usize = 0;
-    while k < n {
+    for k in 0..n {
         if !is_fair(exactly, is_marked(first, k), is_marked(second, k)) {
             return false;
         }
-        k += 1;
     }
     true
 }

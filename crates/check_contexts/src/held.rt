@@ -1,24 +1,16 @@
 // What a process holds, by name.
 ghost use Rattle.notation.specs.Limits.{channel_places, held_limit, text_limit, type_term_limit};
-ghost use Rattle.std.specs.Prelude.{◌≡◌, ℕ, ◌*◌, ◌/◌, ◌<◌, ◌≤◌, get_or};
+ghost use Rattle.std.specs.Prelude.{◌≡◌, ◌*◌, ◌/◌, ◌<◌, ◌≤◌, get_or};
 ghost use Rattle.check_contexts.specs.Held.{held_by, is_named, Sees, Drops, Retypes, RetypesAt, Brings};
 ghost use Rattle.run_words.specs.Operations.{first};
 ghost use Rattle.run_words.specs.Raw.{BoundedEnd, end_words, side_radix};
 ghost use Rattle.run_words.specs.Lists.{All};
 ghost use Rattle.run_words.specs.Values.{held_in};
 
-use notation::reading::Found;
 use notation::token::{has_name, name_length};
 use notation::words::wide;
 use run_words::held::{end_at, replaced, with, without};
 use run_words::records::{END_WORDS, End, HELD_WORDS, Held, SIDE_RADIX};
-
-// What a search by name found.
-#[derive(Clone, Copy)]
-pub enum Lookup {
-    Found(End),
-    Nothing,
-}
 
 // The offset of the name of the end k.
 pub(crate) fn name_at(ends: &[u32; HELD_WORDS], k: usize) -> usize
@@ -29,42 +21,34 @@ pub(crate) fn name_at(ends: &[u32; HELD_WORDS], k: usize) -> usize
 }
 
 // The first of n ends whose name is the one at `at`.
-fn position_in(text: &[u8], ends: &[u32; HELD_WORDS], n: usize, at: usize) -> Found
+fn position_in(text: &[u8], ends: &[u32; HELD_WORDS], n: usize, at: usize) -> Option<usize>
     requires { n ≤ held_limit }
     ensures { result ≡ first (is_named text.now at) (held_in (held_by n ends.now)) }
 {
     let bytes = name_length(text, at);
-    let mut k: usize = 0;
-    while k < n {
+    for k in 0..n {
         if has_name(text, at, bytes, name_at(ends, k)) {
-            return Found::At(k);
+            return Some(k);
         }
-        k += 1;
     }
-    Found::Nothing
+    None
 }
 
 // The first position that has the name at `at`.
-pub fn position_named(text: &[u8], h: Held, at: usize) -> Found
+pub fn position_named(text: &[u8], h: Held, at: usize) -> Option<usize>
     requires { h.count ≤ held_limit }
     ensures { result ≡ first (is_named text.now at) (held_in h) }
 {
-    let n = h.count;
-    let ends = h.words;
-    position_in(text, &ends, n, at)
+    position_in(text, &h.words, h.count, at)
 }
 
 // The channel whose name is the one at `at`.
-pub fn find_end(text: &[u8], h: Held, at: usize) -> Lookup
+pub fn find_end(text: &[u8], h: Held, at: usize) -> Option<End>
     requires { h.count ≤ held_limit }
     ensures { Sees text.now h at result }
 {
-    let f = position_named(text, h, at);
-    let Found::At(k) = f else {
-        return Lookup::Nothing;
-    };
-    let e = end_at(h, k);
-    Lookup::Found(e)
+    let k = position_named(text, h, at)?;
+    Some(end_at(h, k))
 }
 
 // Without that channel.
@@ -72,8 +56,7 @@ pub fn drop_end(text: &[u8], h: Held, at: usize) -> Held
     requires { h.count ≤ held_limit }
     ensures { Drops text.now h at result }
 {
-    let f = position_named(text, h, at);
-    let Found::At(k) = f else {
+    let Some(k) = position_named(text, h, at) else {
         return h;
     };
     without(h, k)
@@ -86,16 +69,7 @@ pub fn retype_at(h: Held, k: usize, node: u32) -> Held
     ensures { RetypesAt h k node result }
 {
     let e = end_at(h, k);
-    replaced(
-        h,
-        k,
-        End {
-            name: e.name,
-            side: e.side,
-            node,
-            channel: e.channel,
-        },
-    )
+    replaced(h, k, End { node, ..e })
 }
 
 // With another type for the channel whose name is the one at `at`.
@@ -104,8 +78,7 @@ pub fn retype_end(text: &[u8], h: Held, at: usize, node: u32) -> Held
     requires all { All BoundedEnd (held_in h) }
     ensures { Retypes text.now h at node result }
 {
-    let f = position_named(text, h, at);
-    let Found::At(k) = f else {
+    let Some(k) = position_named(text, h, at) else {
         return h;
     };
     retype_at(h, k, node)

@@ -1,5 +1,5 @@
 // Which bytes the names that are held begin with: a walk over a process meets many names, and most of them begin with another byte.
-ghost use Rattle.std.specs.Prelude.{◌≡◌, ℕ, ◌<◌, ◌≤◌, ◌%◌, get_or};
+ghost use Rattle.std.specs.Prelude.{◌≡◌, ◌<◌, ◌≤◌, ◌%◌, get_or};
 ghost use Rattle.notation.specs.Limits.{held_limit};
 ghost use Rattle.check_contexts.specs.Initials.{initial_radix, may_begin, Initials};
 
@@ -23,14 +23,12 @@ pub(crate) fn held_initials(text: &[u8], ends: &[u32; HELD_WORDS], n: usize) -> 
     ensures { Initials text.now ends.now n result }
 {
     let mut r = [false; INITIALS];
-    let mut k: usize = 0;
-    while k < n {
+    for k in 0..n {
         let b = byte_at(text, name_at(ends, k));
         if !is_name_byte(b) {
             return [true; INITIALS];
         }
         r[initial(b)] = true;
-        k += 1;
     }
     r
 }

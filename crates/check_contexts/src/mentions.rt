@@ -1,12 +1,12 @@
 // Which of the names that are held a process mentions, in one walk: "A name bound anew inside a half is no mention of a held one."
-ghost use Rattle.std.specs.Prelude.{◌≡◌, ℕ, ◌≤◌, ◌<◌};
+ghost use Rattle.std.specs.Prelude.{◌≡◌, ◌<◌};
 ghost use Rattle.calculus.specs.Mentions.{mentions, branches_mention};
 ghost use Rattle.read_tables.specs.Decode.{process_in};
 ghost use Rattle.read_tables.specs.Roots.{ProcessIn, BranchesIn, branches_in};
 ghost use Rattle.read_tables.specs.Whole.{Tables};
 ghost use Rattle.check_contexts.specs.Initials.{Initials};
 ghost use Rattle.check_contexts.specs.Marks.{Marked, Hidden};
-ghost use Rattle.check_contexts.specs.Mentioned.{CallsFine, has_first_name, has_second_name, acts_first, acts_second, acts_on, binds_anew, has_halves, has_last, last_part, InnerIn, inner_mentions};
+ghost use Rattle.check_contexts.specs.Mentioned.{CallsFine, has_first_name, has_second_name, acts_on, binds_anew, has_halves, has_last, last_part, InnerIn, inner_mentions};
 
 use crate::initials::INITIALS;
 use crate::marks::Marks;
@@ -21,59 +21,13 @@ use run_words::records::HELD_WORDS;
 fn has_first_name(kind: usize) -> bool
     ensures { result ≡ has_first_name kind }
 {
-    if kind == 0 {
-        return false;
-    }
-    if kind == kinds::SPAWN {
-        return false;
-    }
-    kind <= kinds::FWD
+    kind != 0 && kind != kinds::SPAWN && kind <= kinds::FWD
 }
 
 fn has_second_name(kind: usize) -> bool
     ensures { result ≡ has_second_name kind }
 {
-    if kind == kinds::SEND_CHANNEL {
-        return true;
-    }
-    kind == kinds::FWD
-}
-
-// Marks the first name of a node, if it has one; and likewise the second.
-fn mark_first(
-    text: &[u8],
-    ends: &[u32; HELD_WORDS],
-    initials: &[bool; INITIALS],
-    n: usize,
-    node: TermNode,
-    sought: Marks,
-    m: Marks,
-) -> Marks
-    requires { Initials text.now ends.now n initials.now }
-    ensures { Marked text.now ends.now n sought (acts_first text.now node) m result }
-{
-    if has_first_name(node.kind) {
-        return mark_name(text, ends, initials, n, node.first, sought, m);
-    }
-    m
-}
-
-fn mark_second(
-    text: &[u8],
-    ends: &[u32; HELD_WORDS],
-    initials: &[bool; INITIALS],
-    n: usize,
-    node: TermNode,
-    sought: Marks,
-    m: Marks,
-) -> Marks
-    requires { Initials text.now ends.now n initials.now }
-    ensures { Marked text.now ends.now n sought (acts_second text.now node) m result }
-{
-    if has_second_name(node.kind) {
-        return mark_name(text, ends, initials, n, node.second, sought, m);
-    }
-    m
+    matches!(kind, kinds::SEND_CHANNEL | kinds::FWD)
 }
 
 // Marks the names on which a node acts: those that the node itself mentions.
@@ -92,8 +46,14 @@ fn mark_acted(
     if node.kind == kinds::CALL {
         return mark_call(text, ends, initials, n, node.second, sought, m);
     }
-    let r = mark_first(text, ends, initials, n, node, sought, m);
-    mark_second(text, ends, initials, n, node, sought, r)
+    let mut r = m;
+    if has_first_name(node.kind) {
+        r = mark_name(text, ends, initials, n, node.first, sought, r);
+    }
+    if has_second_name(node.kind) {
+        r = mark_name(text, ends, initials, n, node.second, sought, r);
+    }
+    r
 }
 
 // The names that a node binds anew, in all of its parts, are sought no more.
@@ -121,23 +81,14 @@ fn hide_bound(
 fn has_halves(kind: usize) -> bool
     ensures { result ≡ has_halves kind }
 {
-    if kind == kinds::SPAWN {
-        return true;
-    }
-    kind == kinds::TRY
+    matches!(kind, kinds::SPAWN | kinds::TRY)
 }
 
 // The last of a node's parts is its third number: it has one, and no branches.
 fn has_last(kind: usize) -> bool
     ensures { result ≡ has_last kind }
 {
-    if kind == kinds::RECV_LABEL {
-        return false;
-    }
-    if kind == kinds::FWD {
-        return false;
-    }
-    kind != kinds::CALL
+    !matches!(kind, kinds::RECV_LABEL | kinds::FWD | kinds::CALL)
 }
 
 // The pointer of what follows a node; nothing follows one that ends or has branches.
@@ -145,9 +96,10 @@ fn last_part(node: TermNode) -> usize
     ensures { result ≡ last_part node }
 {
     if has_last(node.kind) {
-        return node.third;
+        node.third
+    } else {
+        Script::PROCESS_TERMS
     }
-    Script::PROCESS_TERMS
 }
 
 // Marks, of the first n names, those that are sought and that the process at the pointer p mentions.
@@ -229,11 +181,9 @@ fn mark_branches(
     ensures { Marked text.now ends.now n sought (branches_mention (branches_in text.now scratch.now e count)) m result }
 {
     let mut r = m;
-    let mut k: usize = 0;
-    while k < count {
+    for k in 0..count {
         let b = branch(scratch, e - k);
         r = mark_process(text, scratch, ends, initials, n, b.number, sought, r);
-        k += 1;
     }
     r
 }

@@ -1,17 +1,14 @@
 // Names that are held, and a call's names. Of n names that are held, `initials` spares the search for most others.
-ghost use Rattle.std.specs.Prelude.{◌≡◌, ℕ, ◌<◌, ◌≤◌, length, List, ◌&&◌};
+ghost use Rattle.std.specs.Prelude.{◌≡◌, ◌<◌, length, ◌&&◌};
 ghost use Rattle.notation.specs.Token.{name_at};
-ghost use Rattle.notation.specs.Tree.{Located};
-ghost use Rattle.calculus.specs.Mentions.{is_one_of};
-ghost use Rattle.read_tables.specs.Names.{NamesFrom};
 ghost use Rattle.notation.specs.Limits.{held_limit};
 ghost use Rattle.check_contexts.specs.Initials.{Initials};
-ghost use Rattle.check_contexts.specs.Marks.{mark_of, held_name, is_name, Marked, Hidden};
+ghost use Rattle.check_contexts.specs.Marks.{mark_of, held_name, is_name, Marked, Hidden, MarkPut};
 ghost use Rattle.check_contexts.specs.Walks.{Ends, Among, MarkedList, MarkedCall};
 
 use crate::held::name_at;
 use crate::initials::{INITIALS, may_be_held};
-use crate::marks::{Marks, clear_if, is_marked, mark_if};
+use crate::marks::{Marks, is_marked};
 use notation::token::{has_name, name_length};
 use read_tables::arguments::{Argument, list_start, next_argument};
 use run_words::records::HELD_WORDS;
@@ -22,16 +19,13 @@ pub fn in_list(text: &[u8], from: usize, at: usize) -> bool
 {
     let bytes = name_length(text, at);
     let mut i = from;
-    loop {
-        let a = next_argument(text, i);
-        let Argument::Name(there, past) = a else {
-            return false;
-        };
+    while let Argument::Name(there, past) = next_argument(text, i) {
         if has_name(text, at, bytes, there) {
             return true;
         }
         i = past;
     }
+    false
 }
 
 // Past the list that goes on from `from`.
@@ -40,14 +34,9 @@ pub fn list_end(text: &[u8], from: usize) -> usize
 {
     let mut i = from;
     loop {
-        let a = next_argument(text, i);
-        match a {
-            Argument::Name(there, past) => {
-                i = past;
-            }
-            Argument::End(past) => {
-                return past;
-            }
+        match next_argument(text, i) {
+            Argument::Name(_, past) => i = past,
+            Argument::End(past) => return past,
         }
     }
 }
@@ -64,10 +53,34 @@ fn meets(
     requires { (k < held_limit) × (bytes ≡ length (name_at text.now at)) }
     ensures { result ≡ mark_of sought k && is_name text.now at (held_name text.now ends.now k) }
 {
-    if is_marked(sought, k) {
-        return has_name(text, at, bytes, name_at(ends, k));
+    is_marked(sought, k) && has_name(text, at, bytes, name_at(ends, k))
+}
+
+// Of the first n names, those that are sought and are the name at `at` get the mark `mark`.
+fn put_mark(
+    text: &[u8],
+    ends: &[u32; HELD_WORDS],
+    initials: &[bool; INITIALS],
+    n: usize,
+    at: usize,
+    sought: Marks,
+    m: Marks,
+    mark: bool,
+) -> Marks
+    requires { Initials text.now ends.now n initials.now }
+    ensures { MarkPut text.now ends.now n sought at mark m result }
+{
+    if !may_be_held(text, initials, at) {
+        return m;
     }
-    false
+    let bytes = name_length(text, at);
+    let mut r = m;
+    for k in 0..n {
+        if meets(text, ends, at, bytes, sought, k) {
+            r.set[k] = mark;
+        }
+    }
+    r
 }
 
 // Marks, of the first n names, those that are sought and are the name at `at`.
@@ -83,18 +96,7 @@ pub(crate) fn mark_name(
     requires { Initials text.now ends.now n initials.now }
     ensures { Marked text.now ends.now n sought (is_name text.now at) m result }
 {
-    if !may_be_held(text, initials, at) {
-        return m;
-    }
-    let bytes = name_length(text, at);
-    let mut r = m;
-    let mut k: usize = 0;
-    while k < n {
-        let met = meets(text, ends, at, bytes, sought, k);
-        r = mark_if(r, k, met);
-        k += 1;
-    }
-    r
+    put_mark(text, ends, initials, n, at, sought, m, true)
 }
 
 // Of the first n names, the name at `at` is sought no more.
@@ -109,18 +111,7 @@ pub(crate) fn hide_name(
     requires { Initials text.now ends.now n initials.now }
     ensures { Hidden text.now ends.now n (is_name text.now at) sought result }
 {
-    if !may_be_held(text, initials, at) {
-        return sought;
-    }
-    let bytes = name_length(text, at);
-    let mut r = sought;
-    let mut k: usize = 0;
-    while k < n {
-        let met = meets(text, ends, at, bytes, sought, k);
-        r = clear_if(r, k, met);
-        k += 1;
-    }
-    r
+    put_mark(text, ends, initials, n, at, sought, sought, false)
 }
 
 // Marks after a list of names, and where the list ends.
@@ -146,15 +137,12 @@ fn mark_list(
     let mut i = from;
     let mut marks = m;
     loop {
-        let a = next_argument(text, i);
-        match a {
+        match next_argument(text, i) {
             Argument::Name(there, past) => {
                 marks = mark_name(text, ends, initials, n, there, sought, marks);
                 i = past;
             }
-            Argument::End(past) => {
-                return ListMarks { marks, past };
-            }
+            Argument::End(past) => return ListMarks { marks, past },
         }
     }
 }

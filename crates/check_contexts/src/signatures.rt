@@ -16,8 +16,7 @@ pub fn with_entries(scratch: &[u32], h: Held, first: usize, n: usize, side: u32)
     ensures { WithEntries scratch.now h side first n result }
 {
     let mut r = h;
-    let mut k: usize = 0;
-    while k < n {
+    for k in 0..n {
         let e = entry(scratch, first + k);
         r = with(
             r,
@@ -28,7 +27,6 @@ pub fn with_entries(scratch: &[u32], h: Held, first: usize, n: usize, side: u32)
                 channel: k as u32,
             },
         );
-        k += 1;
     }
     r
 }

@@ -5,8 +5,7 @@ use mathlib.Core.List.{[]}
 use Rattle.notation.specs.Tree.{Located}
 use Rattle.calculus.specs.Declarations.{repeats}
 use Rattle.read_tables.specs.Decode.{numbered}
-use Rattle.check_declarations.specs.declared.lowest.Lowest.{Lowest}
-use Rattle.check_declarations.specs.Lowest.{Lowered, lowered_as, Walking, walk_end}
+use Rattle.check_declarations.specs.Lowest.{Lowest, Lowered, lowered_as, Walking, walk_end}
 use Rattle.check_declarations.specs.Names.{seen_below, repeat_at, repeats_over}
 
 module _ (f : ℕ → Located) where

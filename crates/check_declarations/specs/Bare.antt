@@ -10,9 +10,8 @@ use Rattle.read_tables.specs.Access.{TypeOf, NodeOf, node_there}
 use Rattle.read_tables.specs.Decode.{tally_in, type_in, type_declaration, proc_declaration, exec_declaration, script_in}
 use Rattle.read_tables.specs.Roots.{Cases, Handlers, each_kind, type_cases, TypeIn}
 use Rattle.read_tables.specs.Whole.{Tables}
-use Rattle.check_declarations.specs.declared.lowest.Lowest.{Lowest}
 use Rattle.check_declarations.specs.Kinds.{◌next◌, Says, says, says_at}
-use Rattle.check_declarations.specs.Lowest.{Lowered, lowered_as, lowered_none}
+use Rattle.check_declarations.specs.Lowest.{Lowest, Lowered, lowered_as, lowered_none}
 use Rattle.check_declarations.specs.Passes.{of_types, types_only}
 
 module _ (s w : List ℕ) (i : ℕ) (n : TypeNode) where

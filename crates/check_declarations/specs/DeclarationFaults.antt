@@ -23,9 +23,8 @@ use Rattle.check_declarations.specs.ProcessFaults.{process_faults_in}
 use Rattle.check_declarations.specs.Passes.{of_types, of_processes, of_execs, gathered_in, without_execs, type_names_lem, process_names}
 use Rattle.check_declarations.specs.declared.faults.Pass.{Pass}
 use Rattle.check_declarations.specs.declared.faults.Pass.TheVariants.{Repeated, Undefined}
-use Rattle.check_declarations.specs.declared.lowest.Lowest.{Lowest}
 use Rattle.check_declarations.specs.declared.names.Names.TheVariants.{Types, Processes, Entries}
-use Rattle.check_declarations.specs.Lowest.{Lowered, lowered_as, over}
+use Rattle.check_declarations.specs.Lowest.{Lowest, Lowered, lowered_as, over}
 use Rattle.check_declarations.specs.Names.{name_of}
 
 abbrev pub entries_faults : Pass → Program → List Entry → List ℕ

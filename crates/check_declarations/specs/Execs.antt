@@ -1,13 +1,12 @@
 -- Refusal 9 by number: the execs whose processes break the rule.
 use Rattle.std.specs.Prelude.{ℕ, zero, suc, ◌+◌, ◌≡◌, List, [], ◌∷◌, ◌++◌, Bool, cond, ◌&&◌}
+use Rattle.std.specs.Prelude.{Option as CodeOption, Some, None}
 use Rattle.std.proofs.Math.Path.{refl, sym, ap}
 use Rattle.std.proofs.Common.{◌∙◌}
 use Rattle.std.proofs.Math.Bool.{true, false, not, ◌||◌}
 use Rattle.std.proofs.Math.Option.{Option, some, map}
 use Rattle.notation.specs.Tree.{Name, Located}
 use Rattle.notation.specs.Reader.{name_in}
-use Rattle.notation.specs.declared.reading.Found.{Found}
-use Rattle.notation.specs.declared.reading.Found.TheVariants.{At, Nothing}
 use Rattle.calculus.specs.Program.{Program, Signature, entries}
 use Rattle.calculus.specs.Declarations.{has_other, outward, entry_types, is_nil, keeps_rule, breaking, wrong_execs}
 use Rattle.calculus.specs.Named.{lookup, every}
@@ -17,9 +16,8 @@ use Rattle.read_tables.specs.Access.{as_entry, EntryOf, SignatureOf, ExecOf}
 use Rattle.read_tables.specs.Decode.{tally_in, numbered, entry_at, entries_in, script_in}
 use Rattle.read_tables.specs.Program.{program_in, signature_of, named_process, exec_in, execs_in}
 use Rattle.read_tables.specs.Search.{Sought, place_of}
-use Rattle.check_declarations.specs.declared.lowest.Lowest.{Lowest}
 use Rattle.check_declarations.specs.Listed.{up, by_steps}
-use Rattle.check_declarations.specs.Lowest.{Lowered, lowered_as, lowered_none, over}
+use Rattle.check_declarations.specs.Lowest.{Lowest, Lowered, lowered_as, lowered_none, over}
 use Rattle.check_declarations.specs.Other.{other_in}
 use Rattle.check_declarations.specs.Reach.{marked, any_below, Reaches}
 
@@ -56,17 +54,17 @@ unfolding entries_in
 some_entries s w i zero h = absurd (h refl)
 some_entries s w i (suc n) h = refl
 
-module _ (s w : List ℕ) {name : Name} {r : Found} (t : Sought name (program_in s w).processes (named_process s w) (tally_in w).processes r) where
+module _ (s w : List ℕ) {name : Name} {r : CodeOption ℕ} (t : Sought name (program_in s w).processes (named_process s w) (tally_in w).processes r) where
   abbrev kept : Option Signature → Bool
   kept o = keeps_rule (program_in s w) o
 
-  pub keeps_none : r ≡ Nothing → true ≡ kept (lookup name (program_in s w).processes)
-  keeps_none e = sym (ap kept (t.is ∙ ap (λ (q : Found). map (λ i. (named_process s w i).1) (place_of q)) e))
+  pub keeps_none : r ≡ None → true ≡ kept (lookup name (program_in s w).processes)
+  keeps_none e = sym (ap kept (t.is ∙ ap (λ (q : CodeOption ℕ). map (λ i. (named_process s w i).1) (place_of q)) e))
 
-  module _ {j : ℕ} (e : r ≡ At j) {d : Declared} (o : SignatureOf w j d) where
+  module _ {j : ℕ} (e : r ≡ Some j) {d : Declared} (o : SignatureOf w j d) where
     signed : kept (some (signature_of s w (as_entry d))) ≡ kept (lookup name (program_in s w).processes)
     signed =
-        sym (ap kept (t.is ∙ ap (λ (q : Found). map (λ i. (named_process s w i).1) (place_of q)) e ∙ ap (λ (q : Name × Signature). some q.1) (o.is s)))
+        sym (ap kept (t.is ∙ ap (λ (q : CodeOption ℕ). map (λ i. (named_process s w i).1) (place_of q)) e ∙ ap (λ (q : Name × Signature). some q.1) (o.is s)))
 
     pub keeps_uses : (d.used ≡ 0 → ⊥) → false ≡ kept (lookup name (program_in s w).processes)
     unfolding signature_of

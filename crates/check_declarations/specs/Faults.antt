@@ -1,5 +1,6 @@
 -- Refusals 6 and 7 as one walk: what each pass finds in a type.
 use Prim.Native.Nat.{ℕ, suc, ◌-◌, ◌<◌, ◌≤◌}
+use Rattle.std.specs.Prelude.{Option, Some, None}
 use Rattle.std.specs.Prelude.{◌≡◌, true, false, cond}
 use Rattle.std.proofs.Math.Path.{refl, sym}
 use Rattle.std.proofs.Common.{◌∙◌, ap, true≢false}
@@ -9,8 +10,6 @@ use Rattle.std.proofs.Math.Option.{map}
 use Rattle.notation.specs.Tree.{Name, Located, Ty, named, Alternatives}
 use Rattle.notation.specs.Sizes.{type_terms, alternatives_terms}
 use Rattle.notation.specs.Reader.{name_in}
-use Rattle.notation.specs.declared.reading.Found.{Found}
-use Rattle.notation.specs.declared.reading.Found.TheVariants.{At, Nothing}
 use Rattle.notation.specs.declared.reading.TypeNode.{TypeNode}
 use Rattle.calculus.specs.Program.{Program}
 use Rattle.calculus.specs.Declarations.{repeats, unless_defined, choice_labels, type_repeats, alternatives_repeats, type_undefined, alternatives_undefined}
@@ -26,9 +25,8 @@ use Rattle.check_declarations.specs.Kinds.{◌next◌, says, says_at, is_infix, 
 use Rattle.check_declarations.specs.Listed.{down, by_steps, choice_labels_lem}
 use Rattle.check_declarations.specs.declared.faults.Pass.{Pass}
 use Rattle.check_declarations.specs.declared.faults.Pass.TheVariants.{Repeated, Undefined}
-use Rattle.check_declarations.specs.declared.lowest.Lowest.{Lowest}
 use Rattle.check_declarations.specs.declared.names.Names.TheVariants.{Alternatives as AlternativesFrom}
-use Rattle.check_declarations.specs.Lowest.{Lowered, lowered_as, lowered_none, lowered_then, Walking, walk_end, Left, left_all, left_as, left_after, left_done, over}
+use Rattle.check_declarations.specs.Lowest.{Lowest, Lowered, lowered_as, lowered_none, lowered_then, Walking, walk_end, Left, left_all, left_as, left_after, left_done, over}
 use Rattle.check_declarations.specs.Names.{name_of}
 
 -- the labels of one list
@@ -53,12 +51,12 @@ by_pass f g r u Repeated = r
 by_pass f g r u Undefined = u
 
 -- ── a name that is looked up
-module _ {X : Type 0} {l : List (Name × X)} {f : ℕ → Name × X} {n : ℕ} (s : List ℕ) (at : ℕ) {r : Found} (t : Sought (name_in s at).name l f n r) {low : Lowest} where
-  pub name_defined : {i : ℕ} → r ≡ At i → Lowered low (unless_defined l (name_in s at)) low
-  name_defined e = lowered_as (sym (ap (λ b. cond (is_some b) [] (at ∷ [])) (t.is ∙ ap (λ (q : Found). map (λ i. (f i).1) (place_of q)) e))) lowered_none
+module _ {X : Type 0} {l : List (Name × X)} {f : ℕ → Name × X} {n : ℕ} (s : List ℕ) (at : ℕ) {r : Option ℕ} (t : Sought (name_in s at).name l f n r) {low : Lowest} where
+  pub name_defined : {i : ℕ} → r ≡ Some i → Lowered low (unless_defined l (name_in s at)) low
+  name_defined e = lowered_as (sym (ap (λ b. cond (is_some b) [] (at ∷ [])) (t.is ∙ ap (λ (q : Option ℕ). map (λ i. (f i).1) (place_of q)) e))) lowered_none
 
-  pub name_undefined : {k : Lowest} → r ≡ Nothing → Lowered low (at ∷ []) k → Lowered low (unless_defined l (name_in s at)) k
-  name_undefined e = lowered_as (sym (ap (λ b. cond (is_some b) [] (at ∷ [])) (t.is ∙ ap (λ (q : Found). map (λ i. (f i).1) (place_of q)) e)))
+  pub name_undefined : {k : Lowest} → r ≡ None → Lowered low (at ∷ []) k → Lowered low (unless_defined l (name_in s at)) k
+  name_undefined e = lowered_as (sym (ap (λ b. cond (is_some b) [] (at ∷ [])) (t.is ∙ ap (λ (q : Option ℕ). map (λ i. (f i).1) (place_of q)) e)))
 
 -- ── a type by its node
 module _ (s w : List ℕ) (pass : Pass) where

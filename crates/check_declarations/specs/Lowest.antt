@@ -1,14 +1,17 @@
 -- The lowest of a list of offsets, kept while the list is made.
+use Rattle.std.specs.Prelude.{Option, Some, None}
 use Rattle.std.specs.Prelude.{ℕ, suc, ◌+◌, ◌-◌, ◌<◌, ◌≤◌, ◌≡◌, refl, List, [], ◌∷◌, ◌++◌, true, false, cond, ltb}
 use Rattle.std.proofs.Common.{sym, ◌∙◌, ap, arith}
 use Rattle.calculus.specs.Verdict.{Verdict, fine, refused, lower, lowest, faults}
 use Rattle.check_declarations.specs.Listed.{fold}
-use Rattle.check_declarations.specs.declared.lowest.Lowest.{Lowest}
-use Rattle.check_declarations.specs.declared.lowest.Lowest.TheVariants.{At, Nothing}
+
+-- the lowest offset so far, if there is one
+abbrev pub Lowest : Type 0
+Lowest = Option ℕ
 
 abbrev pub under : Lowest → ℕ → Lowest
-under Nothing j = At j
-under (At i) j = At (lower i j)
+under None j = Some j
+under (Some i) j = Some (lower i j)
 
 unfoldable pub lowest_with : Lowest → List ℕ → Lowest
 lowest_with l [] = l
@@ -16,7 +19,7 @@ lowest_with l (j ∷ js) = lowest_with (under l j) js
 
 -- no offset yet
 abbrev pub least : Lowest
-least = Nothing
+least = None
 
 -- r is the lowest of low and the offsets
 pub record Lowered (low : Lowest) (xs : List ℕ) (r : Lowest) : Type 0 where
@@ -24,15 +27,15 @@ pub record Lowered (low : Lowest) (xs : List ℕ) (r : Lowest) : Type 0 where
 
 -- ── what the lowest offset says
 abbrev pub refused_at : ℕ → Lowest → Verdict
-refused_at n Nothing = fine
-refused_at n (At i) = refused n i
+refused_at n None = fine
+refused_at n (Some i) = refused n i
 
-lowest_at : (n i : ℕ) (is : List ℕ) → refused n (lowest i is) ≡ refused_at n (lowest_with (At i) is)
+lowest_at : (n i : ℕ) (is : List ℕ) → refused n (lowest i is) ≡ refused_at n (lowest_with (Some i) is)
 unfolding lowest_with
 lowest_at n i [] = refl
 lowest_at n i (j ∷ js) = lowest_at n (lower i j) js
 
-pub faults_lowest : (n : ℕ) (xs : List ℕ) → faults n xs ≡ refused_at n (lowest_with Nothing xs)
+pub faults_lowest : (n : ℕ) (xs : List ℕ) → faults n xs ≡ refused_at n (lowest_with None xs)
 unfolding faults lowest_with
 faults_lowest n [] = refl
 faults_lowest n (i ∷ is) = lowest_at n i is
@@ -52,14 +55,14 @@ unfolding lowest_with
 lowered_one e = record { is = e }
 
 -- one offset more: the first, one below the lowest so far, one that is not
-pub under_nothing : {l : Lowest} {j : ℕ} → l ≡ Nothing → Lowered l (j ∷ []) (At j)
+pub under_nothing : {l : Lowest} {j : ℕ} → l ≡ None → Lowered l (j ∷ []) (Some j)
 under_nothing e = rw e (lowered_one refl)
 
-pub under_lower : {l : Lowest} {i j : ℕ} → l ≡ At i → ltb j i ≡ true → Lowered l (j ∷ []) (At j)
-under_lower {l} {i} {j} e t = rw e (lowered_one (ap (λ b. At (cond b j i)) (sym t)))
+pub under_lower : {l : Lowest} {i j : ℕ} → l ≡ Some i → ltb j i ≡ true → Lowered l (j ∷ []) (Some j)
+under_lower {l} {i} {j} e t = rw e (lowered_one (ap (λ b. Some (cond b j i)) (sym t)))
 
-pub under_higher : {l : Lowest} {i j : ℕ} → l ≡ At i → ltb j i ≡ false → Lowered l (j ∷ []) (At i)
-under_higher {l} {i} {j} e t = rw e (lowered_one (ap (λ b. At (cond b j i)) (sym t)))
+pub under_higher : {l : Lowest} {i j : ℕ} → l ≡ Some i → ltb j i ≡ false → Lowered l (j ∷ []) (Some i)
+under_higher {l} {i} {j} e t = rw e (lowered_one (ap (λ b. Some (cond b j i)) (sym t)))
 
 pub lowered_then : {l k r : Lowest} {xs ys : List ℕ} → Lowered l xs k → Lowered k ys r → Lowered l (xs ++ ys) r
 lowered_then {l} {k} {r} {xs} {ys} a b = record { is = b.is ∙ ap (λ m. lowest_with m ys) a.is ∙ sym (lowest_append l xs ys) }

@@ -22,8 +22,7 @@ use Rattle.read_tables.specs.Decode.{type_at, process_at, entry_at, alternative_
 use Rattle.check_declarations.specs.declared.names.Names.{Names}
 use Rattle.check_declarations.specs.declared.names.Names.TheVariants.{Types, Processes, Entries, Alternatives, Branches}
 use Rattle.check_declarations.specs.declared.names.Place.{Place}
-use Rattle.check_declarations.specs.declared.lowest.Lowest.{Lowest}
-use Rattle.check_declarations.specs.Lowest.{over, Lowered, lowered_as, lowered_none}
+use Rattle.check_declarations.specs.Lowest.{Lowest, over, Lowered, lowered_as, lowered_none}
 
 -- the name k of a list
 abbrev pub name_of : List ℕ → List ℕ → Names → ℕ → Located

@@ -28,9 +28,8 @@ use Rattle.check_declarations.specs.declared.processes.Parts.{Parts}
 use Rattle.check_declarations.specs.declared.processes.Parts.TheVariants.{Leaf, Third, Both, Branches as BranchList}
 use Rattle.check_declarations.specs.declared.faults.Pass.{Pass}
 use Rattle.check_declarations.specs.declared.faults.Pass.TheVariants.{Repeated, Undefined}
-use Rattle.check_declarations.specs.declared.lowest.Lowest.{Lowest}
 use Rattle.check_declarations.specs.declared.names.Names.TheVariants.{Branches as BranchesFrom}
-use Rattle.check_declarations.specs.Lowest.{Lowered, lowered_as, lowered_none, Walking, walk_end, Left, left_all, left_as, left_after, left_done, over}
+use Rattle.check_declarations.specs.Lowest.{Lowest, Lowered, lowered_as, lowered_none, Walking, walk_end, Left, left_all, left_as, left_after, left_done, over}
 use Rattle.check_declarations.specs.Names.{name_of}
 
 abbrev pub call_faults : Pass → Program → Located → List ℕ

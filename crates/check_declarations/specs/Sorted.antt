@@ -1,4 +1,5 @@
 -- How declarations of different kinds are mixed does not matter: what refusals 6 to 15 and the warnings say of a script they say of it sorted, as the tables hold it.
+use Rattle.std.specs.Prelude.{Some, None}
 use Rattle.std.specs.Prelude.{ℕ, min, ◌≡◌, Bool, true, false, cond, ltb}
 use Rattle.std.proofs.Math.Path.{refl, sym, ap}
 use Rattle.std.proofs.Common.{◌∙◌, arith, ltb-true, ltb-false}
@@ -12,9 +13,7 @@ use Rattle.calculus.specs.Warnings.{own_warnings, warnings}
 use Rattle.read_tables.specs.Program.{program_sorted}
 use Rattle.read_tables.specs.Scripts.{own_type, own_proc, own_exec, sorted}
 use Rattle.read_tables.specs.Scripts as scripts
-use Rattle.check_declarations.specs.declared.lowest.Lowest.{Lowest}
-use Rattle.check_declarations.specs.declared.lowest.Lowest.TheVariants.{At, Nothing}
-use Rattle.check_declarations.specs.Lowest.{under, lowest_with, lowest_append, refused_at, faults_lowest}
+use Rattle.check_declarations.specs.Lowest.{Lowest, under, lowest_with, lowest_append, refused_at, faults_lowest}
 
 -- ── the lowest offset does not depend on the order
 lower_min : (i j : ℕ) → lower i j ≡ min i j
@@ -25,8 +24,8 @@ lower_min i j = go (ltb j i) refl
     go false e = let h = ltb-false j i e in omega arith
 
 under_swap : (l : Lowest) (j k : ℕ) → under (under l j) k ≡ under (under l k) j
-under_swap Nothing j k = ap At (let a = lower_min j k in let b = lower_min k j in omega arith)
-under_swap (At i) j k = ap At (both j k ∙ (let e : min (min i j) k ≡ min (min i k) j = omega arith in e) ∙ sym (both k j))
+under_swap None j k = ap Some (let a = lower_min j k in let b = lower_min k j in omega arith)
+under_swap (Some i) j k = ap Some (both j k ∙ (let e : min (min i j) k ≡ min (min i k) j = omega arith in e) ∙ sym (both k j))
   where
     both : (m n : ℕ) → lower (lower i m) n ≡ min (min i m) n
     both m n = lower_min (lower i m) n ∙ ap (λ x. min x n) (lower_min i m)
@@ -77,7 +76,7 @@ module _ (f : Declaration → List ℕ) where
       ∙ sym (low_first l a r)
 
   gather_sorted : (n : ℕ) (ds : List Declaration) → faults n (gather f (sorted ds)) ≡ faults n (gather f ds)
-  gather_sorted n ds = faults_lowest n (gather f (sorted ds)) ∙ ap (refused_at n) (low_sorted ds Nothing) ∙ sym (faults_lowest n (gather f ds))
+  gather_sorted n ds = faults_lowest n (gather f (sorted ds)) ∙ ap (refused_at n) (low_sorted ds None) ∙ sym (faults_lowest n (gather f ds))
 
 -- ── the names of one kind keep their order
 module _ {X : Type 0} where
@@ -138,11 +137,11 @@ unfolding repeated
 repeated_sorted ds =
     let t = repeats [] (gather type_name ds) in
     let p = repeats [] (gather process_name ds) in
-    let low : List ℕ → Lowest = λ l. lowest_with Nothing (t ++ (p ++ l)) in
-    let parts : (l : List ℕ) → low l ≡ lowest_with (lowest_with (lowest_with Nothing t) p) l = λ l. lowest_append Nothing t (p ++ l) ∙ lowest_append (lowest_with Nothing t) p l in
+    let low : List ℕ → Lowest = λ l. lowest_with None (t ++ (p ++ l)) in
+    let parts : (l : List ℕ) → low l ≡ lowest_with (lowest_with (lowest_with None t) p) l = λ l. lowest_append None t (p ++ l) ∙ lowest_append (lowest_with None t) p l in
     (λ j. faults 6 (repeats [] (type_names_lem ds j) ++ (repeats [] (process_names ds j) ++ gather own_repeats (sorted ds))))
     ∙ faults_lowest 6 (t ++ (p ++ gather own_repeats (sorted ds)))
-    ∙ ap (refused_at 6) (parts (gather own_repeats (sorted ds)) ∙ low_sorted own_repeats ds (lowest_with (lowest_with Nothing t) p) ∙ sym (parts (gather own_repeats ds)))
+    ∙ ap (refused_at 6) (parts (gather own_repeats (sorted ds)) ∙ low_sorted own_repeats ds (lowest_with (lowest_with None t) p) ∙ sym (parts (gather own_repeats ds)))
     ∙ sym (faults_lowest 6 (t ++ (p ++ gather own_repeats ds)))
 
 undefined_sorted : (ds : List Declaration) → faults 7 (undefined (sorted ds)) ≡ faults 7 (undefined ds)

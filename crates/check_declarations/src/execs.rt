@@ -11,9 +11,8 @@ ghost use Rattle.check_declarations.specs.Execs.{entry_other, breaking_at};
 ghost use Rattle.check_declarations.specs.Lowest.{Lowered, least};
 ghost use Rattle.check_declarations.specs.Reach.{marked, any_below, Reaches};
 
-use crate::lowest::{Lowest, lowered};
+use crate::lowest::lowered;
 use crate::reach::{has_other, reach};
-use notation::reading::Found;
 use notation::script::Script;
 use read_tables::access::{declared_process, entry, exec_at, exec_count};
 use read_tables::search::find_process;
@@ -29,13 +28,11 @@ fn entries_other(
     requires { Tables text.now scratch.now × EntriesIn text.now scratch.now i n }
     ensures { result ≡ any_below (entry_other text.now scratch.now (marked text.now scratch.now marks) i) n }
 {
-    let mut k: usize = 0;
-    while k < n {
+    for k in 0..n {
         let e = entry(scratch, i + k);
         if has_other(text, scratch, marks, e.number) {
             return true;
         }
-        k += 1;
     }
     false
 }
@@ -46,7 +43,7 @@ fn keeps_rule(text: &[u8], scratch: &[u32], marks: [bool; Script::TYPES], at: us
     ensures { result ≡ keeps_rule (program_in text.now scratch.now) (lookup (name_at text.now at) (program_in text.now scratch.now).processes) }
 {
     let f = find_process(text, scratch, at);
-    let Found::At(j) = f else {
+    let Some(j) = f else {
         return true;
     };
     let d = declared_process(scratch, j);
@@ -63,8 +60,8 @@ fn wrong_exec(
     scratch: &[u32],
     marks: [bool; Script::TYPES],
     i: usize,
-    low: Lowest,
-) -> Lowest
+    low: Option<usize>,
+) -> Option<usize>
     requires { Tables text.now scratch.now × Reaches text.now scratch.now marks × (i < exec_limit) }
     ensures { Lowered low (breaking_at (program_in text.now scratch.now) (exec_in text.now scratch.now) i) result }
 {
@@ -76,17 +73,15 @@ fn wrong_exec(
 }
 
 // Refusal 9: where an exec breaks the rule.
-pub(crate) fn wrong_execs(text: &[u8], scratch: &[u32]) -> Lowest
+pub(crate) fn wrong_execs(text: &[u8], scratch: &[u32]) -> Option<usize>
     requires { Tables text.now scratch.now }
     ensures { Lowered least (wrong_execs (script_in text.now scratch.now)) result }
 {
     let marks = reach(text, scratch);
     let n = exec_count(scratch);
-    let mut l = Lowest::Nothing;
-    let mut i: usize = 0;
-    while i < n {
+    let mut l = None;
+    for i in 0..n {
         l = wrong_exec(text, scratch, marks, i, l);
-        i += 1;
     }
     l
 }

@@ -12,10 +12,9 @@ ghost use Rattle.check_declarations.specs.Kinds.{is_infix};
 ghost use Rattle.check_declarations.specs.Lowest.{Lowered};
 ghost use Rattle.check_declarations.specs.Names.{name_of, Fits};
 
-use crate::lowest::{Lowest, lowered};
+use crate::lowest::lowered;
 use crate::names::{Names, repeated_names};
 use notation::kinds;
-use notation::reading::Found;
 use read_tables::access::{alternative, type_node};
 use read_tables::search::{find_process, find_type};
 
@@ -27,31 +26,42 @@ pub enum Pass {
 }
 
 // The name at `at` where no type has it.
-fn undefined_type(text: &[u8], scratch: &[u32], at: usize, low: Lowest) -> Lowest
+fn undefined_type(text: &[u8], scratch: &[u32], at: usize, low: Option<usize>) -> Option<usize>
     requires { Tables text.now scratch.now }
     ensures { Lowered low (unless_defined (program_in text.now scratch.now).types (name_in text.now at)) result }
 {
     let f = find_type(text, scratch, at);
-    let Found::At(_) = f else {
+    let Some(_) = f else {
         return lowered(low, at);
     };
     low
 }
 
 // The name at `at` where no process has it.
-pub(crate) fn undefined_process(text: &[u8], scratch: &[u32], at: usize, low: Lowest) -> Lowest
+pub(crate) fn undefined_process(
+    text: &[u8],
+    scratch: &[u32],
+    at: usize,
+    low: Option<usize>,
+) -> Option<usize>
     requires { Tables text.now scratch.now }
     ensures { Lowered low (unless_defined (program_in text.now scratch.now).processes (name_in text.now at)) result }
 {
     let f = find_process(text, scratch, at);
-    let Found::At(_) = f else {
+    let Some(_) = f else {
         return lowered(low, at);
     };
     low
 }
 
 // A type that is a name.
-fn name_faults(text: &[u8], scratch: &[u32], pass: Pass, at: usize, low: Lowest) -> Lowest
+fn name_faults(
+    text: &[u8],
+    scratch: &[u32],
+    pass: Pass,
+    at: usize,
+    low: Option<usize>,
+) -> Option<usize>
     requires { Tables text.now scratch.now }
     ensures { Lowered low (type_faults pass (program_in text.now scratch.now) (named (name_in text.now at))) result }
 {
@@ -68,8 +78,8 @@ pub(crate) fn list_faults(
     pass: Pass,
     names: Names,
     count: usize,
-    low: Lowest,
-) -> Lowest
+    low: Option<usize>,
+) -> Option<usize>
     requires { Tables text.now scratch.now × Fits names count }
     ensures { Lowered low (label_faults pass (numbered (name_of text.now scratch.now names) 0 count)) result }
 {
@@ -83,10 +93,7 @@ pub(crate) fn list_faults(
 fn is_infix(kind: usize) -> bool
     ensures { result ≡ is_infix kind }
 {
-    if kind < kinds::TENSOR {
-        return false;
-    }
-    kind < kinds::PLUS
+    kinds::TENSOR <= kind && kind < kinds::PLUS
 }
 
 // A choice of `count` alternatives before the place e: its labels and its types.
@@ -97,24 +104,28 @@ fn choice_faults(
     pass: Pass,
     e: usize,
     count: usize,
-    low: Lowest,
-) -> Lowest
+    low: Option<usize>,
+) -> Option<usize>
     requires { Tables text.now scratch.now × AlternativesIn text.now scratch.now e count }
     ensures { Lowered low (choice_faults pass (program_in text.now scratch.now) (alternatives_in text.now scratch.now e count)) result }
 {
     let mut l = list_faults(text, scratch, pass, Names::Alternatives(e), count, low);
-    let mut k: usize = 0;
-    while k < count {
+    for k in 0..count {
         let a = alternative(scratch, e - k);
         l = type_faults(text, scratch, pass, a.number, l);
-        k += 1;
     }
     l
 }
 
 // The type i: the right part of an infix type is the next turn.
 #[cycle(choice_faults_type_faults)]
-pub(crate) fn type_faults(text: &[u8], scratch: &[u32], pass: Pass, i: usize, low: Lowest) -> Lowest
+pub(crate) fn type_faults(
+    text: &[u8],
+    scratch: &[u32],
+    pass: Pass,
+    i: usize,
+    low: Option<usize>,
+) -> Option<usize>
     requires { Tables text.now scratch.now × TypeIn text.now scratch.now i }
     ensures { Lowered low (faults_in text.now scratch.now pass i) result }
 {

@@ -2,22 +2,15 @@
 ghost use Rattle.std.specs.Prelude.{[], ◌∷◌};
 ghost use Rattle.check_declarations.specs.Lowest.{Lowered};
 
-// The lowest offset so far.
-#[derive(Clone, Copy)]
-pub enum Lowest {
-    Nothing,
-    At(usize),
-}
-
-// With one offset more.
-pub(crate) fn lowered(low: Lowest, at: usize) -> Lowest
+// The lowest offset so far, with one more.
+pub(crate) fn lowered(low: Option<usize>, at: usize) -> Option<usize>
     ensures { Lowered low (at ∷ []) result }
 {
-    let Lowest::At(i) = low else {
-        return Lowest::At(at);
+    let Some(i) = low else {
+        return Some(at);
     };
     if at < i {
-        return Lowest::At(at);
+        return Some(at);
     }
     low
 }

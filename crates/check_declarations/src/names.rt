@@ -7,7 +7,7 @@ ghost use Rattle.read_tables.specs.Decode.{numbered};
 ghost use Rattle.check_declarations.specs.Lowest.{Lowered};
 ghost use Rattle.check_declarations.specs.Names.{name_of, Fits, StandsAt, seen_below, repeat_at};
 
-use crate::lowest::{Lowest, lowered};
+use crate::lowest::lowered;
 use notation::token::names_equal;
 use read_tables::access::{alternative, branch, declared_process, declared_type, entry};
 
@@ -76,9 +76,7 @@ fn seen_before(text: &[u8], scratch: &[u32], names: Names, j: usize) -> bool
     ensures { result ≡ seen_below (name_of text.now scratch.now names) (name_of text.now scratch.now names j).name j }
 {
     let a = name_at(scratch, names, j);
-    let mut k = j;
-    while 0 < k {
-        k -= 1;
+    for k in (0..j).rev() {
         let b = name_at(scratch, names, k);
         if names_equal(text, a.letter, b.letter) {
             return true;
@@ -88,7 +86,13 @@ fn seen_before(text: &[u8], scratch: &[u32], names: Names, j: usize) -> bool
 }
 
 // The name j where it repeats one before.
-fn repeated_name(text: &[u8], scratch: &[u32], names: Names, j: usize, low: Lowest) -> Lowest
+fn repeated_name(
+    text: &[u8],
+    scratch: &[u32],
+    names: Names,
+    j: usize,
+    low: Option<usize>,
+) -> Option<usize>
     requires { Area scratch.now × Fits names (j + 1) }
     ensures { Lowered low (repeat_at (name_of text.now scratch.now names) j) result }
 {
@@ -105,16 +109,14 @@ pub(crate) fn repeated_names(
     scratch: &[u32],
     names: Names,
     count: usize,
-    low: Lowest,
-) -> Lowest
+    low: Option<usize>,
+) -> Option<usize>
     requires { Area scratch.now × Fits names count }
     ensures { Lowered low (repeats [] (numbered (name_of text.now scratch.now names) 0 count)) result }
 {
     let mut l = low;
-    let mut j: usize = 0;
-    while j < count {
+    for j in 0..count {
         l = repeated_name(text, scratch, names, j, l);
-        j += 1;
     }
     l
 }

@@ -10,7 +10,6 @@ ghost use Rattle.check_declarations.specs.ProcessFaults.{call_faults, parts_of, 
 ghost use Rattle.check_declarations.specs.Lowest.{Lowered};
 
 use crate::faults::{Pass, list_faults, type_faults, undefined_process};
-use crate::lowest::Lowest;
 use crate::names::Names;
 use notation::kinds;
 use notation::reading::TermNode;
@@ -60,7 +59,13 @@ fn what_follows(parts: Parts, n: TermNode) -> usize
 }
 
 // A call of the process whose name is at `at`.
-fn call_faults(text: &[u8], scratch: &[u32], pass: Pass, at: usize, low: Lowest) -> Lowest
+fn call_faults(
+    text: &[u8],
+    scratch: &[u32],
+    pass: Pass,
+    at: usize,
+    low: Option<usize>,
+) -> Option<usize>
     requires { Tables text.now scratch.now }
     ensures { Lowered low (call_faults pass (program_in text.now scratch.now) (name_in text.now at)) result }
 {
@@ -71,7 +76,13 @@ fn call_faults(text: &[u8], scratch: &[u32], pass: Pass, at: usize, low: Lowest)
 }
 
 // What a node has itself: a spawn its type, a branch list its labels, a call its name.
-fn node_faults(text: &[u8], scratch: &[u32], pass: Pass, n: TermNode, low: Lowest) -> Lowest
+fn node_faults(
+    text: &[u8],
+    scratch: &[u32],
+    pass: Pass,
+    n: TermNode,
+    low: Option<usize>,
+) -> Option<usize>
     requires { Tables text.now scratch.now × ((p : ℕ) × (p < process_term_limit) × ProcessIn text.now scratch.now p × TermOf scratch.now p n) }
     ensures { Lowered low (node_faults text.now scratch.now pass n) result }
 {
@@ -96,8 +107,8 @@ fn inner_faults(
     pass: Pass,
     parts: Parts,
     n: TermNode,
-    low: Lowest,
-) -> Lowest
+    low: Option<usize>,
+) -> Option<usize>
     requires { Tables text.now scratch.now × InnerIn text.now scratch.now parts n }
     ensures { Lowered low (inner_faults text.now scratch.now pass parts n) result }
 {
@@ -117,17 +128,15 @@ fn branches_faults(
     pass: Pass,
     e: usize,
     count: usize,
-    low: Lowest,
-) -> Lowest
+    low: Option<usize>,
+) -> Option<usize>
     requires { Tables text.now scratch.now × BranchesIn text.now scratch.now e count }
     ensures { Lowered low (branches_faults pass (program_in text.now scratch.now) (branches_in text.now scratch.now e count)) result }
 {
     let mut l = low;
-    let mut k: usize = 0;
-    while k < count {
+    for k in 0..count {
         let b = branch(scratch, e - k);
         l = process_faults(text, scratch, pass, b.number, l);
-        k += 1;
     }
     l
 }
@@ -139,8 +148,8 @@ pub(crate) fn process_faults(
     scratch: &[u32],
     pass: Pass,
     p: usize,
-    low: Lowest,
-) -> Lowest
+    low: Option<usize>,
+) -> Option<usize>
     requires { Tables text.now scratch.now × ProcessIn text.now scratch.now p }
     ensures { Lowered low (process_faults_in text.now scratch.now pass p) result }
 {

@@ -21,12 +21,7 @@ fn marked_so(text: &[u8], scratch: &[u32], mark: bool, i: usize, at: usize) -> b
     requires { Tables text.now scratch.now × (i < type_limit) }
     ensures { result ≡ marked_so text.now scratch.now mark (name_at text.now at) i }
 {
-    if mark {
-        let t = declared_type(scratch, i);
-        let there = t.at;
-        return names_equal(text, at, there);
-    }
-    false
+    mark && names_equal(text, at, declared_type(scratch, i).at)
 }
 
 // A marked type has the name at `at`.
@@ -35,12 +30,10 @@ fn is_marked(text: &[u8], scratch: &[u32], marks: [bool; Script::TYPES], at: usi
     ensures { result ≡ any_of (same (name_at text.now at)) (marked text.now scratch.now marks) }
 {
     let n = type_count(scratch);
-    let mut i: usize = 0;
-    while i < n {
+    for i in 0..n {
         if marked_so(text, scratch, marks[i], i, at) {
             return true;
         }
-        i += 1;
     }
     false
 }
@@ -57,13 +50,11 @@ fn alternatives_other(
     requires { Tables text.now scratch.now × AlternativesIn text.now scratch.now e count }
     ensures { result ≡ have_other (marked text.now scratch.now marks) (plains (alternatives_in text.now scratch.now e count)) }
 {
-    let mut k: usize = 0;
-    while k < count {
+    for k in 0..count {
         let a = alternative(scratch, e - k);
         if has_other(text, scratch, marks, a.number) {
             return true;
         }
-        k += 1;
     }
     false
 }
@@ -102,23 +93,11 @@ fn next_marks(text: &[u8], scratch: &[u32], marks: [bool; Script::TYPES]) -> [bo
 {
     let n = type_count(scratch);
     let mut next = marks;
-    let mut i: usize = 0;
-    while i < n {
+    for i in 0..n {
         let t = declared_type(scratch, i);
         next[i] = has_other(text, scratch, marks, t.number);
-        i += 1;
     }
     next
-}
-
-// One of two marks is set, the other is not.
-fn mark_differs(a: bool, b: bool) -> bool
-    ensures { result ≡ differs a b }
-{
-    if a {
-        return !b;
-    }
-    b
 }
 
 // The marks of one of the first n types differ.
@@ -126,12 +105,10 @@ fn marks_differ(a: [bool; Script::TYPES], b: [bool; Script::TYPES], n: usize) ->
     requires { n ≤ type_limit }
     ensures { result ≡ any_below (differs_at a b) n }
 {
-    let mut i: usize = 0;
-    while i < n {
-        if mark_differs(a[i], b[i]) {
+    for i in 0..n {
+        if a[i] != b[i] {
             return true;
         }
-        i += 1;
     }
     false
 }
@@ -143,15 +120,12 @@ pub fn reach(text: &[u8], scratch: &[u32]) -> [bool; Script::TYPES]
 {
     let n = type_count(scratch);
     let mut marks = [false; Script::TYPES];
-    let mut k: usize = 0;
-    while k < n {
+    for _ in 0..n {
         let next = next_marks(text, scratch, marks);
-        if marks_differ(marks, next, n) {
-            marks = next;
-            k += 1;
-        } else {
+        if !marks_differ(marks, next, n) {
             return marks;
         }
+        marks = next;
     }
     marks
 }

@@ -8,36 +8,26 @@ ghost use Rattle.calculus.specs.Verdict.{verdict_of};
 
 use crate::bare::bare_names;
 use crate::execs::wrong_execs;
-use crate::lowest::Lowest;
 use crate::passes::{repeated_at, undefined_at};
-use calculus::verdict::Verdict;
+use notation::refusal::Refusal;
 
 // Refusal n at the lowest offset, if there is one.
-fn refusal(n: u32, low: Lowest) -> Verdict
-    ensures { verdict_of result ≡ refused_at n low }
+fn refusal(number: u32, low: Option<usize>) -> Result<(), Refusal>
+    ensures { verdict_of result ≡ refused_at number low }
 {
     match low {
-        Lowest::Nothing => Verdict::Fine,
-        Lowest::At(i) => Verdict::Refused(n, i),
+        None => Ok(()),
+        Some(at) => Err(Refusal { number, at }),
     }
 }
 
 // What refusals 6 to 9 say of the declarations.
-pub fn declared_verdict(text: &[u8], scratch: &[u32]) -> Verdict
+pub fn declared_verdict(text: &[u8], scratch: &[u32]) -> Result<(), Refusal>
     requires { Tables text.now scratch.now }
     ensures { verdict_of result ≡ declared (script_in text.now scratch.now) }
 {
-    let repeated = refusal(6, repeated_at(text, scratch));
-    let Verdict::Fine = repeated else {
-        return repeated;
-    };
-    let undefined = refusal(7, undefined_at(text, scratch));
-    let Verdict::Fine = undefined else {
-        return undefined;
-    };
-    let bare = refusal(8, bare_names(text, scratch));
-    let Verdict::Fine = bare else {
-        return bare;
-    };
-    refusal(9, wrong_execs(text, scratch))
+    refusal(Refusal::REPEATED, repeated_at(text, scratch))?;
+    refusal(Refusal::UNDEFINED, undefined_at(text, scratch))?;
+    refusal(Refusal::BARE_NAME, bare_names(text, scratch))?;
+    refusal(Refusal::EXEC_RULE, wrong_execs(text, scratch))
 }

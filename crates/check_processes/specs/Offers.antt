@@ -1,5 +1,6 @@
 -- What the typing rule of a recv with labels asks of its channel and its branches.
-use Rattle.std.specs.Prelude.{ℕ, ◌<◌, ◌≡◌, refl, List, ◌++◌, Bool, true, false, not}
+use Rattle.std.specs.Prelude.{ℕ, ◌≡◌, refl, List, ◌++◌, Bool, true, false, not}
+use Rattle.std.specs.Prelude.{Option as CodeOption, Some, None, Result, Ok, Err, IfOk}
 use Rattle.std.proofs.Math.Path.{sym, ap}
 use Rattle.std.proofs.Common.{◌∙◌, subst}
 use Rattle.std.proofs.Math.Option.{Option, some, none}
@@ -17,15 +18,13 @@ use Rattle.run_words.specs.declared.records.End.{End as EndWords}
 use Rattle.run_words.specs.declared.records.Held.{Held}
 use Rattle.read_tables.specs.Program.{plain_in, program_in}
 use Rattle.read_tables.specs.Roots.{AlternativesIn, alternatives_in, branches_in}
-use Rattle.check_types.specs.Acting.{choosing_of, chosen_in, ChoosingIn}
+use Rattle.read_tables.specs.Whole.{Tables}
+use Rattle.check_types.specs.Acting.{choosing_of, chosen_in, ChoosingIn, ChoosingOf}
 use Rattle.check_types.specs.declared.messages.Choosing.{Choosing as ChoosingWords}
-use Rattle.check_types.specs.declared.messages.Choosing.TheVariants.{Chooses}
-use Rattle.check_types.specs.declared.messages.Choosing.TheVariants as NoChoosing
 use Rattle.check_terms.specs.Findings.{Finding, refusal, finding, found}
 use Rattle.check_terms.specs.Next.{context_in}
-use Rattle.check_terms.specs.Acting.{slot_in, different_sides, equal_sides, other_so}
-use Rattle.check_processes.specs.declared.choices.Offer.{Offer}
-use Rattle.check_processes.specs.declared.choices.Offer.TheVariants as offer
+use Rattle.check_terms.specs.Acting.{slot_in, Acts, typed_as, different_sides, equal_sides, other_so}
+use Rattle.check_terms.specs.Sends.{Acting, acts_not}
 
 -- a refusal's number, or the labels of the channel's type
 pub data Offered : Type 0 where
@@ -77,62 +76,60 @@ found_recv_label p G at c B =
     demand_so n false v m t e = refl
 
 -- ── the code's answer
-abbrev pub offer_of : List ℕ → List ℕ → Offer → Offered
-offer_of s w (offer.Refused n) = refuses n
-offer_of s w (offer.Labels e m) = offers (plains (alternatives_in s w e m))
-
-abbrev pub listed : List ℕ → List ℕ → Offer → Type 0
-listed s w (offer.Refused n) = Unit {0}
-listed s w (offer.Labels e m) = AlternativesIn s w e m
+abbrev pub offer_of : List ℕ → List ℕ → Result ChoosingWords ℕ → Offered
+offer_of s w (Ok t) = offers (plains (alternatives_in s w t.place t.count))
+offer_of s w (Err n) = refuses n
 
 abbrev pub offered_by : List ℕ → List ℕ → TermNode → Context → Offered
 offered_by s w n G = offered (program_in s w) (name_at s n.first) (branches_in s w n.second n.third) G
 
-pub record Offers (s w : List ℕ) (h : Held) (n : TermNode) (r : Offer) : Type 0 where
+pub record Offers (s w : List ℕ) (h : Held) (n : TermNode) (r : Result ChoosingWords ℕ) : Type 0 where
   pub is : offer_of s w r ≡ offered_by s w n (context_in s w h)
-  pub labels : listed s w r
+  pub labels : IfOk r (λ t. AlternativesIn s w t.place t.count)
 
 -- ── the ways through the code
-module _ (s w : List ℕ) (h : Held) (n : TermNode) where
-  abbrev G : Context
-  G = context_in s w h
+offers_refused : {s w : List ℕ} {h : Held} {n : TermNode} {x : Result ChoosingWords ℕ} {m : ℕ} → x ≡ Err m → offered_by s w n (context_in s w h) ≡ refuses m → Offers s w h n x
+offers_refused v e = rw v (record { is = sym e; labels = tt })
 
-  abbrev B : Branches
-  B = branches_in s w n.second n.third
-
-  pub offers_absent : acting (program_in s w) (name_at s n.first) G ≡ none → Offers s w h n (offer.Refused 10)
+module _ {s w : List ℕ} {h : Held} (n : TermNode) where
+  pub offers_absent : {x : Result ChoosingWords ℕ} → x ≡ Err 10 → {r : CodeOption EndWords} → Acts s w h n.first r → r ≡ None → Offers s w h n x
   unfolding offered
-  offers_absent e = record { is = sym (ap (λ o. wanting 10 o (offered_at B)) e); labels = tt }
+  offers_absent v a q = offers_refused v (ap (λ o. wanting 10 o (offered_at (branches_in s w n.second n.third))) (acts_not a q))
 
-  module _ (e : EndWords) (f : acting (program_in s w) (name_at s n.first) G ≡ some (slot_in s w e)) (b : e.side < 2) (i : ℕ) (z : i ≡ e.node) (t : ChoosingWords) (g : ChoosingIn s w i t) where
-    abbrev tests : Choosing → Offered
-    tests = offered_on B (slot_in s w e)
+  module _ {e : EndWords} (g : Acting s w h n.first e) (u : Tables s w) {i : ℕ} (z : i ≡ e.node) {r : CodeOption ChoosingWords} (f : ChoosingOf w i r) where
+    there : ChoosingIn s w i r
+    there = f.says s u (typed_as s w e i z g.fits)
 
-    seen : offered_by s w n G ≡ wanting 11 (choosing_of s w t) tests
+    seen : offered_by s w n (context_in s w h) ≡ wanting 11 (choosing_of s w r) (offered_on (branches_in s w n.second n.third) (slot_in s w e))
     unfolding offered
-    seen = ap (λ o. wanting 10 o (offered_at B)) f ∙ ap (λ k. wanting 11 (choosing (plain_in s w k)) tests) (sym z) ∙ ap (λ o. wanting 11 o tests) g.is
+    seen =
+        ap (λ o. wanting 10 o (offered_at (branches_in s w n.second n.third))) g.is
+        ∙ ap (λ k. wanting 11 (choosing (plain_in s w k)) (offered_on (branches_in s w n.second n.third) (slot_in s w e))) (sym z)
+        ∙ ap (λ o. wanting 11 o (offered_on (branches_in s w n.second n.third) (slot_in s w e))) there.is
 
-    pub offers_nothing : t ≡ NoChoosing.Nothing → Offers s w h n (offer.Refused 11)
-    offers_nothing q = record { is = sym (seen ∙ ap (λ u. wanting 11 (choosing_of s w u) tests) q); labels = tt }
+    pub offers_nothing : {x : Result ChoosingWords ℕ} → x ≡ Err 11 → r ≡ None → Offers s w h n x
+    offers_nothing v q = offers_refused v (seen ∙ ap (λ o. wanting 11 (choosing_of s w o) (offered_on (branches_in s w n.second n.third) (slot_in s w e))) q)
 
-    module _ (sender a m : ℕ) (q : t ≡ Chooses sender a m) where
-      there : chosen_in s w (Chooses sender a m)
-      there = subst (chosen_in s w) q g.parts
+    module _ {t : ChoosingWords} (q : r ≡ Some t) where
+      parts : chosen_in s w (Some t)
+      parts = subst (chosen_in s w) q there.parts
 
-      pub labels_there : AlternativesIn s w a m
-      labels_there = there.1
+      pub labels_there : AlternativesIn s w t.place t.count
+      labels_there = parts.1
 
-      abbrev labels : Alternatives Name
-      labels = plains (alternatives_in s w a m)
+      both : {x y : Bool} → not (same_side (side_of e.side) (side_of t.sender)) ≡ x → fitting (plains (alternatives_in s w t.place t.count)) (branches_in s w n.second n.third) ≡ y
+          → offered_by s w n (context_in s w h) ≡ allowed 11 x (allowed 12 y (offers (plains (alternatives_in s w t.place t.count))))
+      both a b =
+          seen
+          ∙ ap (λ o. wanting 11 (choosing_of s w o) (offered_on (branches_in s w n.second n.third) (slot_in s w e))) q
+          ∙ λ j. allowed 11 ((other_so e.side (side_of t.sender) ∙ a) j) (allowed 12 (b j) (offers (plains (alternatives_in s w t.place t.count))))
 
-      both : (x y : Bool) → not (same_side (side_of e.side) (side_of sender)) ≡ x → fitting labels B ≡ y → offered_by s w n G ≡ allowed 11 x (allowed 12 y (offers labels))
-      both x y u v = seen ∙ ap (λ c. wanting 11 (choosing_of s w c) tests) q ∙ λ j. allowed 11 ((other_so e.side (side_of sender) ∙ u) j) (allowed 12 (v j) (offers labels))
+      pub offers_own_end : e.side ≡ t.sender → Offers s w h n (Err 11)
+      offers_own_end a = offers_refused refl (both (ap not (equal_sides e.side t.sender g.side parts.0 a)) refl)
 
-      pub offers_own_end : e.side ≡ sender → Offers s w h n (offer.Refused 11)
-      offers_own_end u = record { is = sym (both false (fitting labels B) (ap not (equal_sides e.side sender b there.0 u)) refl); labels = tt }
+      module _ (a : e.side ≡ t.sender → ⊥) where
+        pub offers_not : false ≡ fitting (plains (alternatives_in s w t.place t.count)) (branches_in s w n.second n.third) → Offers s w h n (Err 12)
+        offers_not b = offers_refused refl (both (ap not (different_sides e.side t.sender g.side parts.0 a)) (sym b))
 
-      pub offers_not : (e.side ≡ sender → ⊥) → fitting labels B ≡ false → Offers s w h n (offer.Refused 12)
-      offers_not u v = record { is = sym (both true false (ap not (different_sides e.side sender b there.0 u)) v); labels = tt }
-
-      pub offers_so : (e.side ≡ sender → ⊥) → fitting labels B ≡ true → Offers s w h n (offer.Labels a m)
-      offers_so u v = record { is = sym (both true true (ap not (different_sides e.side sender b there.0 u)) v); labels = labels_there }
+        pub offers_so : true ≡ fitting (plains (alternatives_in s w t.place t.count)) (branches_in s w n.second n.third) → Offers s w h n (Ok t)
+        offers_so b = record { is = sym (both (ap not (different_sides e.side t.sender g.side parts.0 a)) (sym b)); labels = labels_there }

@@ -1,5 +1,5 @@
 -- The ways through the code of a spawn and of a try.
-use Rattle.std.specs.Prelude.{ℕ, ◌<◌, ◌≤◌, ◌≡◌, refl, List, Bool, not, ◌&&◌, ltb, length}
+use Rattle.std.specs.Prelude.{ℕ, ◌<◌, ◌≤◌, ◌≡◌, refl, List, Bool, not, ◌&&◌, ltb, length, Result, Ok, Err}
 use Rattle.std.proofs.Math.Path.{sym}
 use Rattle.std.proofs.Common.{◌∙◌, ap, true≢false, arith, lt-ltb, le-ltb, ltb-true}
 use Rattle.std.proofs.Math.Bool.{true, false}
@@ -24,7 +24,7 @@ use Rattle.check_contexts.specs.Halves.{half_side, wanted, takes, Takes, Keeps, 
 use Rattle.check_contexts.specs.declared.halves.Half.TheVariants.{OfSpawn, OfTry}
 use Rattle.check_terms.specs.Findings.{Finding, refusal, found, both}
 use Rattle.check_terms.specs.Next.{go, granted, resume, context_in}
-use Rattle.check_terms.specs.Endings.{number_of}
+use Rattle.check_terms.specs.Endings.{answer_of}
 use Rattle.check_terms.specs.Sends.{count_so}
 use Rattle.check_processes.specs.Nodes.{NodeIn, apart?, joins?, spawn_step, half_context, spawn_at, try_at}
 use Rattle.check_processes.specs.Process.{spawn_stops, spawn_goes}
@@ -74,15 +74,15 @@ module _ (s w : List ℕ) (h : Held) (n : TermNode) where
   abbrev new? : Bool
   new? = not (is_some (lookup x G))
 
-  abbrev number : ℕ
-  number = number_of (spawn_step s w n G)
+  abbrev answer : Result (Unit {0}) ℕ
+  answer = answer_of (spawn_step s w n G)
 
   step : (a b : Bool) → apart? s w n G ≡ a → joins? s w n G ≡ b → spawn_step s w n G ≡ granted 13 a (granted 15 b (go G))
   unfolding spawn_step
   step a b p q = λ j. granted 13 (p j) (granted 15 (q j) (go G))
 
-  pub spawn_shared : apart? s w n G ≡ false → 13 ≡ number
-  spawn_shared p = sym (ap number_of (step false (joins? s w n G) p refl))
+  pub spawn_shared : false ≡ apart? s w n G → Err 13 ≡ answer
+  spawn_shared p = sym (ap answer_of (step false (joins? s w n G) (sym p) refl))
 
   -- the tests of the new name
   room : (r : Held) (H : Context) → context_in s w r ≡ H → (b : Bool) → ltb r.count held_limit ≡ b → ltb (length H) held_limit ≡ b
@@ -97,29 +97,32 @@ module _ (s w : List ℕ) (h : Held) (n : TermNode) where
   abbrev leaves? : Bool
   leaves? = ltb (length (spawn_leaves x (process_in s w n.second) G)) held_limit
 
-  module _ (p : apart? s w n G ≡ true) where
-    pub spawn_known : new? ≡ false → 15 ≡ number
-    spawn_known q = sym (ap number_of (step true false p (ap (λ c. joins_by c takes? leaves?) q)))
+  module _ (p : true ≡ apart? s w n G) where
+    joins_as : {b : Bool} → joins? s w n G ≡ b → answer_of (granted 15 b (go G)) ≡ answer
+    joins_as {b} q = sym (ap answer_of (step true b (sym p) q))
 
-    module _ (q : new? ≡ true) (a : Held) (k : Keeps s w h (OfSpawn n.at n.second) true a) where
-      pub spawn_full : a.count ≡ held_limit → 15 ≡ number
-      spawn_full z = sym (ap number_of (step true false p (λ j. joins_by (q j) (room a _ (taken a k) false (le-ltb a.count held_limit (omega arith)) j) leaves?)))
+    pub spawn_known : false ≡ new? → Err 15 ≡ answer
+    spawn_known q = joins_as (ap (λ c. joins_by c takes? leaves?) (sym q))
 
-      module _ (l : a.count < held_limit) (b : Held) (m : Keeps s w h (OfSpawn n.at n.second) false b) where
-        pub spawn_full_rest : b.count ≡ held_limit → 15 ≡ number
+    module _ (q : true ≡ new?) {a : Held} (k : Keeps s w h (OfSpawn n.at n.second) true a) where
+      pub spawn_full : a.count ≡ held_limit → Err 15 ≡ answer
+      spawn_full z = joins_as (λ j. joins_by (sym q j) (room a _ (taken a k) false (le-ltb a.count held_limit (omega arith)) j) leaves?)
+
+      module _ (l : a.count < held_limit) {b : Held} (m : Keeps s w h (OfSpawn n.at n.second) false b) where
+        pub spawn_full_rest : b.count ≡ held_limit → Err 15 ≡ answer
         spawn_full_rest z =
-            sym (ap number_of (step true false p (λ j. joins_by (q j) (room a _ (taken a k) true (lt-ltb a.count held_limit l) j) (room b _ (left b m) false (le-ltb b.count held_limit (omega arith)) j))))
+            joins_as (λ j. joins_by (sym q j) (room a _ (taken a k) true (lt-ltb a.count held_limit l) j) (room b _ (left b m) false (le-ltb b.count held_limit (omega arith)) j))
 
-        pub spawn_fine : b.count < held_limit → 0 ≡ number
-        spawn_fine z = sym (ap number_of (step true true p (λ j. joins_by (q j) (room a _ (taken a k) true (lt-ltb a.count held_limit l) j) (room b _ (left b m) true (lt-ltb b.count held_limit z) j))))
+        pub spawn_fine : b.count < held_limit → Ok tt ≡ answer
+        spawn_fine z = joins_as (λ j. joins_by (sym q j) (room a _ (taken a k) true (lt-ltb a.count held_limit l) j) (room b _ (left b m) true (lt-ltb b.count held_limit z) j))
 
   -- ── where nothing is at fault, both halves have room
-  fine_joins : (a b : Bool) → number_of (granted 13 a (granted 15 b (go G))) ≡ 0 → b ≡ true
+  fine_joins : (a b : Bool) → Ok tt ≡ answer_of (granted 13 a (granted 15 b (go G))) → b ≡ true
   fine_joins true true e = refl
-  fine_joins true false e = absurd (omega arith)
-  fine_joins false b e = absurd (omega arith)
+  fine_joins true false e = cc
+  fine_joins false b e = cc
 
-  joins_so : number ≡ 0 → joins? s w n G ≡ true
+  joins_so : Ok tt ≡ answer → joins? s w n G ≡ true
   unfolding spawn_step
   joins_so e = fine_joins (apart? s w n G) (joins? s w n G) e
 
@@ -140,12 +143,12 @@ module _ (s w : List ℕ) (h : Held) (n : TermNode) where
   half_kept true = sym (context_kept _ (channels_of s w h))
   half_kept false = sym (context_kept _ (channels_of s w h))
 
-  half_room : (first : Bool) → number ≡ 0 → length (half_of first) < held_limit
+  half_room : (first : Bool) → Ok tt ≡ answer → length (half_of first) < held_limit
   half_room true e = ltb-true _ held_limit (both_rooms new? takes? leaves? (joins_so e)).0
   half_room false e = ltb-true _ held_limit (both_rooms new? takes? leaves? (joins_so e)).1
 
   module _ {taken : Marks} (t : Takes s w h (OfSpawn n.at n.second) ALL taken) (u : HeldIn s w h) (first : Bool) where
-    pub half_has_room : number ≡ 0 → HasRoom h taken first
+    pub half_has_room : Ok tt ≡ answer → HasRoom h taken first
     half_has_room e =
         let l = kept (λ y. wanted first (takes s w (OfSpawn n.at n.second) y)) (channels_of s w h) in
         has_room first t u (omega (arith, half_room first e, ap length (half_kept first), context_length l))
@@ -178,31 +181,29 @@ module _ (s w : List ℕ) (h : Held) (p : ℕ) (n : TermNode) (t : NodeIn s w p 
   spawn_said : found_at s w h p ≡ resume n.at (spawn_step s w n context) (λ H. both (first? H) (second? H))
   spawn_said = (spawn_at s w p n t z).4 context
 
-  pub spawn_refused : (r : ℕ) → r ≡ number_of (spawn_step s w n context) → (r ≡ 0 → ⊥) → refusal r n.at ≡ found_at s w h p
-  spawn_refused r e d = spawn_stops s w n context n.at (λ H. both (first? H) (second? H)) r e d ∙ sym spawn_said
+  pub spawn_refused : {r : ℕ} → Err r ≡ answer_of (spawn_step s w n context) → refusal r n.at ≡ found_at s w h p
+  spawn_refused e = spawn_stops s w n context n.at (λ H. both (first? H) (second? H)) e ∙ sym spawn_said
 
-  pub spawn_halves : (r : ℕ) → r ≡ number_of (spawn_step s w n context) → r ≡ 0 → (a b : Held) → context_in s w a ≡ half_context s w n context true → context_in s w b ≡ half_context s w n context false
+  pub spawn_halves : Ok tt ≡ answer_of (spawn_step s w n context) → (a b : Held) → context_in s w a ≡ half_context s w n context true → context_in s w b ≡ half_context s w n context false
       → both (found_at s w a n.second) (found_at s w b n.third) ≡ found_at s w h p
-  spawn_halves r e o a b f g =
+  spawn_halves e a b f g =
       (λ j. both (found (program_in s w) (f j) (process_in s w n.second)) (found (program_in s w) (g j) (process_in s w n.third)))
-      ∙ sym (spawn_said ∙ spawn_goes s w n context n.at (λ H. both (first? H) (second? H)) r e o)
+      ∙ sym (spawn_said ∙ spawn_goes s w n context n.at (λ H. both (first? H) (second? H)) e)
 
 -- ── what a try's checks come to
 module _ (s w : List ℕ) (h : Held) (p : ℕ) (n : TermNode) (t : NodeIn s w p n) (z : 12 ≤ n.kind) where
   abbrev halves? : Context → Finding
   halves? H = both (found (program_in s w) (try_takes (process_in s w n.second) H) (process_in s w n.second)) (found (program_in s w) (try_takes (process_in s w n.third) H) (process_in s w n.third))
 
-  module _ (u : HeldIn s w h) {a b : Marks} (f : Takes s w h (OfTry n.second) ALL a) (g : Takes s w h (OfTry n.third) ALL b) (r : Bool) (d : Divides h.count a b true r) where
-    try_by : (c : Bool) → r ≡ c → resume n.at (granted 13 c (go (context_in s w h))) halves? ≡ found_at s w h p
-    try_by c e =
-        sym ((try_at s w p n t z).3 (context_in s w h)
-        ∙ ap (λ c. resume n.at (granted 13 c (go (context_in s w h))) halves?) (sym (tried_once s w h n.second n.third r (fair_each f u g d)) ∙ e))
+  module _ (u : HeldIn s w h) {a b : Marks} (f : Takes s w h (OfTry n.second) ALL a) (g : Takes s w h (OfTry n.third) ALL b) where
+    try_by : {r : Bool} → Divides h.count a b true r → resume n.at (granted 13 r (go (context_in s w h))) halves? ≡ found_at s w h p
+    try_by {r} d = sym ((try_at s w p n t z).3 (context_in s w h) ∙ ap (λ c. resume n.at (granted 13 c (go (context_in s w h))) halves?) (sym (tried_once s w h n.second n.third r (fair_each f u g d))))
 
-    pub try_refused : r ≡ false → refusal 13 n.at ≡ found_at s w h p
-    try_refused e = try_by false e
+    pub try_refused : Divides h.count a b true false → refusal 13 n.at ≡ found_at s w h p
+    try_refused d = try_by d
 
-    pub try_halves : r ≡ true → (x y : Held) → Picks h a true x → Picks h b true y
+    pub try_halves : Divides h.count a b true true → (x y : Held) → Picks h a true x → Picks h b true y
         → both (found_at s w x n.second) (found_at s w y n.third) ≡ found_at s w h p
-    try_halves e x y k l =
+    try_halves d x y k l =
         (λ j. both (found (program_in s w) (tried s w h n.second x (keeps_so f u k) j) (process_in s w n.second)) (found (program_in s w) (tried s w h n.third y (keeps_so g u l) j) (process_in s w n.third)))
-        ∙ try_by true e
+        ∙ try_by d

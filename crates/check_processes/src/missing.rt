@@ -1,5 +1,5 @@
 // The labels that the recvs of a process leave out, by their numbers: in text order, a recv before those inside it. Nothing is at fault in the process, so the walk is that of its check.
-ghost use Rattle.std.specs.Prelude.{◌≡◌, true};
+ghost use Rattle.std.specs.Prelude.{◌≡◌};
 ghost use Rattle.calculus.specs.Checking.{check};
 ghost use Rattle.calculus.specs.Verdict.{fine};
 ghost use Rattle.calculus.specs.Warnings.{missing};
@@ -12,29 +12,36 @@ ghost use Rattle.check_types.specs.Sought.{Sought};
 ghost use Rattle.check_terms.specs.Next.{context_in};
 ghost use Rattle.check_processes.specs.Branches.{missing_inside};
 ghost use Rattle.check_processes.specs.Nodes.{NodeIn};
-ghost use Rattle.check_processes.specs.Turns.{TurnIn, verdict_at, half_verdict, verdict_after, missing_at, half_missing, missing_after};
+ghost use Rattle.check_processes.specs.Turns.{TurnIn, HalfIn, verdict_at, half_verdict, verdict_after, missing_at, half_missing, missing_after};
 ghost use Rattle.check_processes.specs.Missing.{missing_in, BranchesFine};
 
-use crate::choices::{Offer, labels_offered};
-use crate::turns::{Turn, check_turn};
+use crate::choices::labels_offered;
+use crate::turns::{Part, Rest, Turn, check_turn};
 use check_contexts::held::retype_end;
 use check_types::acting::labelled;
-use check_types::left_out::{LeftOut, left_out};
-use notation::reading::{Found, TermNode};
+use check_types::left_out::left_out;
+use notation::reading::TermNode;
 use notation::words::narrow;
 use read_tables::access::branch;
 use run_words::records::Held;
+use std::ops::ControlFlow;
 
-// Where the recv names its channel, and where the label's apostrophe stands in the type; or all were passed over, and so many are still to be.
+// What a search breaks with, a label that a recv leaves out: where the recv names its channel, and where the label's apostrophe stands in the type. Where a search goes on, all were passed over, and so many are still to be.
 #[derive(Clone, Copy)]
-pub enum Search {
-    At(usize, usize),
-    Past(usize),
+pub struct Unmet {
+    pub channel: usize,
+    pub label: usize,
 }
 
 // The label k that the process at the pointer p leaves out, with what it holds.
 #[cycle(missing_branches_missing_choice_missing_half_missing_label_missing_on)]
-pub fn missing_label(text: &[u8], scratch: &[u32], h: Held, p: usize, k: usize) -> Search
+pub fn missing_label(
+    text: &[u8],
+    scratch: &[u32],
+    h: Held,
+    p: usize,
+    k: usize,
+) -> ControlFlow<Unmet, usize>
     requires { Tables text.now scratch.now × HeldIn text.now scratch.now h × ProcessIn text.now scratch.now p × (check (program_in text.now scratch.now) (context_in text.now scratch.now h) (process_in text.now scratch.now p) ≡ fine) }
     ensures { Sought (missing (program_in text.now scratch.now) (context_in text.now scratch.now h) (process_in text.now scratch.now p)) k (missing_in text.now result) }
 {
@@ -44,63 +51,65 @@ pub fn missing_label(text: &[u8], scratch: &[u32], h: Held, p: usize, k: usize) 
 
 // From a turn on: its first half, and a turn for each term that follows.
 #[cycle(missing_branches_missing_choice_missing_half_missing_label_missing_on)]
-fn missing_on(text: &[u8], scratch: &[u32], first: Turn, k: usize) -> Search
+fn missing_on(text: &[u8], scratch: &[u32], first: Turn, k: usize) -> ControlFlow<Unmet, usize>
     requires { Tables text.now scratch.now × TurnIn text.now scratch.now first × (verdict_after text.now scratch.now first ≡ fine) }
     ensures { Sought (missing_after text.now scratch.now first) k (missing_in text.now result) }
 {
     let mut t = first;
     let mut left = k;
     loop {
-        let half = t.half;
-        let s = missing_half(text, scratch, t.halved, half, t.from, left);
-        let Search::Past(j) = s else {
-            return s;
-        };
-        left = j;
-        if !t.on {
-            break;
+        left = missing_half(text, scratch, t.half, left)?;
+        match t.rest {
+            Rest::On(part) => t = check_turn(text, scratch, part.held, part.pointer),
+            Rest::Choice(part, n) => {
+                return missing_choice(text, scratch, part.held, part.pointer, n, left);
+            }
+            Rest::Done(_) => return ControlFlow::Continue(left),
         }
-        let held = t.held;
-        t = check_turn(text, scratch, held, t.rest);
     }
-    if t.choice {
-        let held = t.held;
-        let node = t.node;
-        return missing_choice(text, scratch, held, t.rest, node, left);
-    }
-    Search::Past(left)
 }
 
 // In the first half of a term, if it has halves.
 #[cycle(missing_branches_missing_choice_missing_half_missing_label_missing_on)]
-fn missing_half(text: &[u8], scratch: &[u32], halved: bool, h: Held, p: usize, k: usize) -> Search
-    requires { Tables text.now scratch.now × (halved ≡ true → HeldIn text.now scratch.now h × ProcessIn text.now scratch.now p) × (half_verdict text.now scratch.now halved h p ≡ fine) }
-    ensures { Sought (half_missing text.now scratch.now halved h p) k (missing_in text.now result) }
+fn missing_half(
+    text: &[u8],
+    scratch: &[u32],
+    half: Option<Part>,
+    k: usize,
+) -> ControlFlow<Unmet, usize>
+    requires { Tables text.now scratch.now × HalfIn text.now scratch.now half × (half_verdict text.now scratch.now half ≡ fine) }
+    ensures { Sought (half_missing text.now scratch.now half) k (missing_in text.now result) }
 {
-    if halved {
-        return missing_label(text, scratch, h, p, k);
+    match half {
+        Some(part) => missing_label(text, scratch, part.held, part.pointer, k),
+        None => ControlFlow::Continue(k),
     }
-    Search::Past(k)
 }
 
 // `recv c ('l => P | ..)`, which is never refused here: what it leaves out itself, then what those in its branches do.
 #[cycle(missing_branches_missing_choice_missing_half_missing_label_missing_on)]
-fn missing_choice(text: &[u8], scratch: &[u32], h: Held, p: usize, n: TermNode, k: usize) -> Search
+fn missing_choice(
+    text: &[u8],
+    scratch: &[u32],
+    h: Held,
+    p: usize,
+    n: TermNode,
+    k: usize,
+) -> ControlFlow<Unmet, usize>
     requires { Tables text.now scratch.now × HeldIn text.now scratch.now h × NodeIn text.now scratch.now p n × (n.kind ≡ 8) × (verdict_at text.now scratch.now h p ≡ fine) }
     ensures { Sought (missing_at text.now scratch.now h p) k (missing_in text.now result) }
 {
-    let o = labels_offered(text, scratch, h, n);
-    let Offer::Labels(e, m) = o else {
-        return Search::Past(k);
+    let Ok(t) = labels_offered(text, scratch, h, n) else {
+        return ControlFlow::Continue(k);
     };
-    let l = left_out(text, scratch, e, m, n.second, n.third, k);
-    match l {
-        LeftOut::At(label) => {
-            return Search::At(n.first, label);
-        }
-        LeftOut::Past(left) => {
-            return missing_branches(text, scratch, h, n.first, e, m, n.second, n.third, left);
-        }
+    match left_out(text, scratch, t.place, t.count, n.second, n.third, k) {
+        ControlFlow::Break(label) => ControlFlow::Break(Unmet {
+            channel: n.first,
+            label,
+        }),
+        ControlFlow::Continue(left) => missing_branches(
+            text, scratch, h, n.first, t.place, t.count, n.second, n.third, left,
+        ),
     }
 }
 
@@ -116,26 +125,19 @@ fn missing_branches(
     d: usize,
     n: usize,
     k: usize,
-) -> Search
+) -> ControlFlow<Unmet, usize>
     requires tables { Tables text.now scratch.now × HeldIn text.now scratch.now h × AlternativesIn text.now scratch.now e m × BranchesIn text.now scratch.now d n }
     requires branches_fine { BranchesFine text.now scratch.now h c e m d n }
     ensures { Sought (missing_inside text.now scratch.now h c e m (branches_in text.now scratch.now d n)) k (missing_in text.now result) }
 {
-    let mut i: usize = 0;
     let mut left = k;
-    while i < n {
+    for i in 0..n {
         let b = branch(scratch, d - i);
-        let f = labelled(text, scratch, b.at, e, m);
-        let Found::At(j) = f else {
-            return Search::Past(left);
+        let Some(j) = labelled(text, scratch, b.at, e, m) else {
+            return ControlFlow::Continue(left);
         };
         let held = retype_end(text, h, c, narrow(j));
-        let s = missing_label(text, scratch, held, b.number, left);
-        let Search::Past(more) = s else {
-            return s;
-        };
-        left = more;
-        i += 1;
+        left = missing_label(text, scratch, held, b.number, left)?;
     }
-    Search::Past(left)
+    ControlFlow::Continue(left)
 }

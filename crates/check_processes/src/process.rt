@@ -1,5 +1,5 @@
 // The check of a process: the first term in text order that is at fault, then the lowest number.
-ghost use Rattle.std.specs.Prelude.{◌≡◌, true, ◌<◌};
+ghost use Rattle.std.specs.Prelude.{◌≡◌};
 ghost use Rattle.notation.specs.Token.{name_at};
 ghost use Rattle.notation.specs.Tree.{plains};
 ghost use Rattle.calculus.specs.Checking.{check, check_branches};
@@ -11,21 +11,21 @@ ghost use Rattle.read_tables.specs.Roots.{ProcessIn, AlternativesIn, alternative
 ghost use Rattle.read_tables.specs.Whole.{Tables};
 ghost use Rattle.check_terms.specs.Next.{context_in};
 ghost use Rattle.check_processes.specs.Nodes.{NodeIn};
-ghost use Rattle.check_processes.specs.Turns.{TurnIn, half_verdict, verdict_after};
+ghost use Rattle.check_processes.specs.Turns.{TurnIn, HalfIn, half_verdict, verdict_after};
 
-use crate::choices::{Offer, labels_offered};
-use crate::turns::{Turn, check_turn};
-use calculus::verdict::Verdict;
+use crate::choices::labels_offered;
+use crate::turns::{Part, Rest, Turn, check_turn};
 use check_contexts::held::retype_end;
 use check_types::acting::labelled;
-use notation::reading::{Found, TermNode};
+use notation::reading::TermNode;
+use notation::refusal::Refusal;
 use notation::words::narrow;
 use read_tables::access::branch;
 use run_words::records::Held;
 
 // The process at the pointer p, with what it holds: nothing is at fault, or a refusal.
 #[cycle(check_branches_check_choice_check_half_check_on_check_process)]
-pub fn check_process(text: &[u8], scratch: &[u32], h: Held, p: usize) -> Verdict
+pub fn check_process(text: &[u8], scratch: &[u32], h: Held, p: usize) -> Result<(), Refusal>
     requires { Tables text.now scratch.now × HeldIn text.now scratch.now h × ProcessIn text.now scratch.now p }
     ensures { verdict_of result ≡ check (program_in text.now scratch.now) (context_in text.now scratch.now h) (process_in text.now scratch.now p) }
 {
@@ -35,57 +35,46 @@ pub fn check_process(text: &[u8], scratch: &[u32], h: Held, p: usize) -> Verdict
 
 // From a turn on: its first half, and a turn for each term that follows.
 #[cycle(check_branches_check_choice_check_half_check_on_check_process)]
-fn check_on(text: &[u8], scratch: &[u32], first: Turn) -> Verdict
+fn check_on(text: &[u8], scratch: &[u32], first: Turn) -> Result<(), Refusal>
     requires { Tables text.now scratch.now × TurnIn text.now scratch.now first }
     ensures { verdict_of result ≡ verdict_after text.now scratch.now first }
 {
     let mut t = first;
     loop {
-        let half = t.half;
-        let v = check_half(text, scratch, t.halved, half, t.from);
-        let Verdict::Fine = v else {
-            return v;
-        };
-        if !t.on {
-            break;
+        check_half(text, scratch, t.half)?;
+        match t.rest {
+            Rest::On(part) => t = check_turn(text, scratch, part.held, part.pointer),
+            Rest::Choice(part, n) => {
+                return check_choice(text, scratch, part.held, part.pointer, n);
+            }
+            Rest::Done(v) => return v,
         }
-        let held = t.held;
-        t = check_turn(text, scratch, held, t.rest);
     }
-    if t.choice {
-        let held = t.held;
-        let node = t.node;
-        return check_choice(text, scratch, held, t.rest, node);
-    }
-    t.verdict
 }
 
 // The first half of a term, if it has halves.
 #[cycle(check_branches_check_choice_check_half_check_on_check_process)]
-fn check_half(text: &[u8], scratch: &[u32], halved: bool, h: Held, p: usize) -> Verdict
-    requires { Tables text.now scratch.now × (halved ≡ true → HeldIn text.now scratch.now h × ProcessIn text.now scratch.now p) }
-    ensures { verdict_of result ≡ half_verdict text.now scratch.now halved h p }
+fn check_half(text: &[u8], scratch: &[u32], half: Option<Part>) -> Result<(), Refusal>
+    requires { Tables text.now scratch.now × HalfIn text.now scratch.now half }
+    ensures { verdict_of result ≡ half_verdict text.now scratch.now half }
 {
-    if halved {
-        return check_process(text, scratch, h, p);
+    match half {
+        Some(part) => check_process(text, scratch, part.held, part.pointer),
+        None => Ok(()),
     }
-    Verdict::Fine
 }
 
 // `recv c ('l => P | ..)`.
 #[cycle(check_branches_check_choice_check_half_check_on_check_process)]
-fn check_choice(text: &[u8], scratch: &[u32], h: Held, p: usize, n: TermNode) -> Verdict
+fn check_choice(text: &[u8], scratch: &[u32], h: Held, p: usize, n: TermNode) -> Result<(), Refusal>
     requires { Tables text.now scratch.now × HeldIn text.now scratch.now h × NodeIn text.now scratch.now p n × (n.kind ≡ 8) }
     ensures { verdict_of result ≡ check (program_in text.now scratch.now) (context_in text.now scratch.now h) (process_in text.now scratch.now p) }
 {
-    let o = labels_offered(text, scratch, h, n);
-    match o {
-        Offer::Refused(refusal) => {
-            return Verdict::Refused(refusal, n.at);
-        }
-        Offer::Labels(e, m) => {
-            return check_branches(text, scratch, h, n.at, n.first, e, m, n.second, n.third);
-        }
+    match labels_offered(text, scratch, h, n) {
+        Ok(t) => check_branches(
+            text, scratch, h, n.at, n.first, t.place, t.count, n.second, n.third,
+        ),
+        Err(number) => Err(Refusal { number, at: n.at }),
     }
 }
 
@@ -101,23 +90,20 @@ fn check_branches(
     m: usize,
     d: usize,
     k: usize,
-) -> Verdict
+) -> Result<(), Refusal>
     requires { Tables text.now scratch.now × HeldIn text.now scratch.now h × AlternativesIn text.now scratch.now e m × BranchesIn text.now scratch.now d k }
     ensures { verdict_of result ≡ check_branches (program_in text.now scratch.now) (context_in text.now scratch.now h) at (name_at text.now c) (plains (alternatives_in text.now scratch.now e m)) (branches_in text.now scratch.now d k) }
 {
-    let mut i: usize = 0;
-    while i < k {
+    for i in 0..k {
         let b = branch(scratch, d - i);
-        let f = labelled(text, scratch, b.at, e, m);
-        let Found::At(j) = f else {
-            return Verdict::Refused(12, at);
+        let Some(j) = labelled(text, scratch, b.at, e, m) else {
+            return Err(Refusal {
+                number: Refusal::NO_LABEL,
+                at,
+            });
         };
         let held = retype_end(text, h, c, narrow(j));
-        let v = check_process(text, scratch, held, b.number);
-        let Verdict::Fine = v else {
-            return v;
-        };
-        i += 1;
+        check_process(text, scratch, held, b.number)?;
     }
-    Verdict::Fine
+    Ok(())
 }

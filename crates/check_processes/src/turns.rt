@@ -1,149 +1,121 @@
 // One term of a process, or its end: what is to be checked next, or the verdict. Nothing here calls itself.
 ghost use Rattle.std.specs.Prelude.{◌≡◌, ◌≤◌};
 ghost use Rattle.notation.specs.Limits.{process_term_limit};
-ghost use Rattle.calculus.specs.Verdict.{verdict_of};
+ghost use Rattle.notation.specs.Refusals.{refuses};
 ghost use Rattle.read_tables.specs.Roots.{ProcessIn};
 ghost use Rattle.read_tables.specs.Whole.{Tables};
 ghost use Rattle.check_contexts.specs.Held.{HeldIn};
-ghost use Rattle.check_terms.specs.Endings.{verdict_by};
 ghost use Rattle.check_processes.specs.Nodes.{NodeIn};
-ghost use Rattle.check_processes.specs.Turns.{Onward, Given, Choosing, halved_by, Follows, Turned};
+ghost use Rattle.check_processes.specs.Turns.{done, goes_on, halved, ended_by, followed_by, Turned};
 
-use crate::rules::{ending_refusal, receive_one, send_next, spawn_refusal};
-use calculus::verdict::Verdict;
+use crate::rules::{check_end, check_halves, receive_one, send_next};
 use check_contexts::halves::{Half, divides, half_takes, keep, spawn_half};
 use check_contexts::marks::ALL;
-use check_terms::next::Next;
 use check_terms::sends::cancel_next;
 use notation::kinds;
 use notation::reading::TermNode;
+use notation::refusal::Refusal;
 use notation::script::Script;
 use notation::words::narrow;
 use read_tables::access::term_node;
-use run_words::records::{Held, NOTHING};
+use run_words::records::Held;
 
-// After one term: its first half is to be checked first, where it has halves; then the process at `rest`, with what is held, where it goes on;
-// or its branches, where it is a choice, which then stands at `rest`; or the verdict is given.
+// A process that is to be checked: what it holds, its pointer.
+#[derive(Clone, Copy)]
+pub struct Part {
+    pub held: Held,
+    pub pointer: usize,
+}
+
+// A process follows; or a choice, by its node too; or the verdict is given.
+#[derive(Clone, Copy)]
+pub enum Rest {
+    On(Part),
+    Choice(Part, TermNode),
+    Done(Result<(), Refusal>),
+}
+
+// After one term: its first half is to be checked first, where it has halves; then the rest.
 #[derive(Clone, Copy)]
 pub struct Turn {
-    pub on: bool,
-    pub choice: bool,
-    pub verdict: Verdict,
-    pub held: Held,
-    pub rest: usize,
-    // A choice's node.
-    pub node: TermNode,
-    // Whether there is a first half; what it holds, its pointer.
-    pub halved: bool,
-    pub half: Held,
-    pub from: usize,
+    pub half: Option<Part>,
+    pub rest: Rest,
 }
 
-const NO_NODE: TermNode = TermNode {
-    kind: 0,
-    at: 0,
-    first: 0,
-    second: 0,
-    third: 0,
-};
-
-// Nothing follows and no verdict is given: what a turn that goes on begins with.
-const BLANK: Turn = Turn {
-    on: false,
-    choice: false,
-    verdict: Verdict::Fine,
-    held: NOTHING,
-    rest: 0,
-    node: NO_NODE,
-    halved: false,
-    half: NOTHING,
-    from: 0,
-};
-
-// The process at `rest` follows.
-pub(crate) fn goes_on(h: Held, rest: usize) -> Turn
-    ensures { Onward h rest result }
-{
-    let mut t = BLANK;
-    t.on = true;
-    t.held = h;
-    t.rest = rest;
-    t
-}
-
-// The verdict is given; what is held then is of no account.
-pub(crate) fn done(v: Verdict) -> Turn
-    ensures { Given v result }
+// The process at the pointer follows.
+fn goes_on(held: Held, pointer: usize) -> Turn
+    ensures { result ≡ goes_on held pointer }
 {
     Turn {
-        on: false,
-        choice: false,
-        verdict: v,
-        held: NOTHING,
-        rest: 0,
-        node: NO_NODE,
-        halved: false,
-        half: NOTHING,
-        from: 0,
+        half: None,
+        rest: Rest::On(Part { held, pointer }),
     }
 }
 
-// The choice at p, whose node is n.
-pub(crate) fn chooses(h: Held, p: usize, n: TermNode) -> Turn
-    ensures { Choosing h p n result }
+fn done(v: Result<(), Refusal>) -> Turn
+    ensures { result ≡ done v }
 {
-    let mut t = BLANK;
-    t.choice = true;
-    t.held = h;
-    t.rest = p;
-    t.node = n;
-    t
-}
-
-// What comes first is the process at `from`.
-pub(crate) fn with_half(t: Turn, half: Held, from: usize) -> Turn
-    ensures { result ≡ halved_by half from t }
-{
-    let mut u = t;
-    u.halved = true;
-    u.half = half;
-    u.from = from;
-    u
-}
-
-fn ended(at: usize, refusal: u32) -> Verdict
-    ensures { verdict_of result ≡ verdict_by at refusal }
-{
-    if refusal == 0 {
-        return Verdict::Fine;
+    Turn {
+        half: None,
+        rest: Rest::Done(v),
     }
-    Verdict::Refused(refusal, at)
+}
+
+// Two halves, one after the other.
+fn halves(a: Held, first: usize, b: Held, second: usize) -> Turn
+    ensures { result ≡ halved a first b second }
+{
+    Turn {
+        half: Some(Part {
+            held: a,
+            pointer: first,
+        }),
+        rest: Rest::On(Part {
+            held: b,
+            pointer: second,
+        }),
+    }
+}
+
+fn refused(number: u32, at: usize) -> Turn
+    ensures { result ≡ done (refuses number at) }
+{
+    done(Err(Refusal { number, at }))
+}
+
+// A term after which nothing follows.
+fn ended(x: Result<(), u32>, at: usize) -> Turn
+    ensures { result ≡ ended_by x at }
+{
+    match x {
+        Ok(()) => done(Ok(())),
+        Err(number) => refused(number, at),
+    }
 }
 
 // The rest of a term that goes on.
-pub(crate) fn after(x: Next, at: usize, rest: usize) -> Turn
-    ensures { Follows x at rest result }
+fn after(x: Result<Held, u32>, at: usize, rest: usize) -> Turn
+    ensures { result ≡ followed_by x at rest }
 {
-    let h = x.held;
-    if x.refusal == 0 {
-        return goes_on(h, rest);
+    match x {
+        Ok(held) => goes_on(held, rest),
+        Err(number) => refused(number, at),
     }
-    done(Verdict::Refused(x.refusal, at))
 }
 
 // An empty process: nothing may be left over.
-pub(crate) fn check_empty(text: &[u8], scratch: &[u32], h: Held, p: usize) -> Turn
+fn check_empty(text: &[u8], scratch: &[u32], h: Held, p: usize) -> Turn
     requires { Tables text.now scratch.now × ProcessIn text.now scratch.now p × (process_term_limit ≤ p) }
     ensures { Turned text.now scratch.now h p result }
 {
     if h.count == 0 {
-        return done(Verdict::Fine);
+        return done(Ok(()));
     }
-    done(Verdict::Refused(13, p - Script::PROCESS_TERMS))
+    refused(Refusal::LEFT_OVER, p - Script::PROCESS_TERMS)
 }
 
 // A send or a cancel.
-pub(crate) fn check_send(text: &[u8], scratch: &[u32], h: Held, p: usize, n: TermNode) -> Turn
+fn check_send(text: &[u8], scratch: &[u32], h: Held, p: usize, n: TermNode) -> Turn
     requires { Tables text.now scratch.now × HeldIn text.now scratch.now h × NodeIn text.now scratch.now p n × (n.kind ≤ 4) }
     ensures { Turned text.now scratch.now h p result }
 {
@@ -156,12 +128,11 @@ pub(crate) fn check_send(text: &[u8], scratch: &[u32], h: Held, p: usize, n: Ter
 }
 
 // `fwd x c` and `call p (x, ..) [y, ..]`.
-pub(crate) fn check_last(text: &[u8], scratch: &[u32], h: Held, p: usize, n: TermNode) -> Turn
+fn check_last(text: &[u8], scratch: &[u32], h: Held, p: usize, n: TermNode) -> Turn
     requires { Tables text.now scratch.now × HeldIn text.now scratch.now h × NodeIn text.now scratch.now p n × (9 ≤ n.kind) × (n.kind ≤ 10) }
     ensures { Turned text.now scratch.now h p result }
 {
-    let x = ending_refusal(text, scratch, h, n);
-    done(ended(n.at, x))
+    ended(check_end(text, scratch, h, n), n.at)
 }
 
 // A receive: of a close or a channel, after which one process follows, or of labels, which have branches.
@@ -170,7 +141,14 @@ fn check_receive(text: &[u8], scratch: &[u32], h: Held, p: usize, n: TermNode) -
     ensures { Turned text.now scratch.now h p result }
 {
     if n.kind == kinds::RECV_LABEL {
-        return chooses(h, p, n);
+        let part = Part {
+            held: h,
+            pointer: p,
+        };
+        return Turn {
+            half: None,
+            rest: Rest::Choice(part, n),
+        };
     }
     let x = receive_one(text, scratch, h, n);
     after(x, n.at, n.third)
@@ -182,15 +160,14 @@ fn check_spawn(text: &[u8], scratch: &[u32], h: Held, p: usize, n: TermNode) -> 
     ensures { Turned text.now scratch.now h p result }
 {
     let taken = half_takes(text, scratch, h, Half::OfSpawn(n.at, n.second), ALL);
-    let refusal = spawn_refusal(text, scratch, h, n, taken);
-    if refusal != 0 {
-        return done(Verdict::Refused(refusal, n.at));
+    if let Err(number) = check_halves(text, scratch, h, n, taken) {
+        return refused(number, n.at);
     }
     let name = narrow(n.at);
     let node = narrow(n.first);
     let a = spawn_half(h, taken, name, node, true, 0);
     let b = spawn_half(h, taken, name, node, false, 0);
-    with_half(goes_on(b, n.third), a, n.second)
+    halves(a, n.second, b, n.third)
 }
 
 // `try (P) catch (Q)`: P comes first, then Q follows.
@@ -201,11 +178,11 @@ fn check_try(text: &[u8], scratch: &[u32], h: Held, p: usize, n: TermNode) -> Tu
     let first = half_takes(text, scratch, h, Half::OfTry(n.second), ALL);
     let second = half_takes(text, scratch, h, Half::OfTry(n.third), ALL);
     if !divides(h.count, first, second, true) {
-        return done(Verdict::Refused(13, n.at));
+        return refused(Refusal::LEFT_OVER, n.at);
     }
     let a = keep(h, first, true);
     let b = keep(h, second, true);
-    with_half(goes_on(b, n.third), a, n.second)
+    halves(a, n.second, b, n.third)
 }
 
 // A term that ends its process; a raise, whose rest follows; or a try.

@@ -1,12 +1,11 @@
 -- What the code that looks at one channel promises.
 use Rattle.std.specs.Prelude.{ℕ, zero, suc, ◌+◌, ◌<◌, ◌≡◌, refl, List, Bool, true, false, cond, not, ◌&&◌, eqb}
+use Rattle.std.specs.Prelude.{Option as CodeOption, Some, None}
 use Rattle.std.proofs.Common.{sym, ◌∙◌, ap, subst, arith, eq-eqb, ne_eqb}
 use Rattle.std.proofs.Math.Option.{Option, some, none, map}
 use Rattle.notation.specs.Token.{name_at}
 use Rattle.notation.specs.Tree.{Name, Ty, plains}
 use Rattle.notation.specs.declared.reading.TypeNode.{TypeNode}
-use Rattle.notation.specs.declared.reading.Found.{Found}
-use Rattle.notation.specs.declared.reading.Found.TheVariants as found
 use Rattle.calculus.specs.Named.{lookup}
 use Rattle.calculus.specs.Types.{Side, provided, used, other, same_side, Shape, shape, at_leaf, unfolded, passing, choosing, labelled}
 use Rattle.calculus.specs.Types as calculus
@@ -26,17 +25,11 @@ use Rattle.read_tables.specs.Roots.{TypeIn, alternatives_in}
 use Rattle.read_tables.specs.Search.{place_of}
 use Rattle.read_tables.specs.Whole.{Tables}
 use Rattle.check_types.specs.Shapes.{ShapeIn, is_leaf, is_word, is_pair, is_choice_lem, shape_in}
-use Rattle.check_types.specs.Acting.{StandsFor, passing_of, passed_in, PassingIn, PassingOf, choosing_of, chosen_in, ChoosingIn}
+use Rattle.check_types.specs.Acting.{StandsFor, passing_of, passed_in, PassingIn, PassingOf, choosing_of, chosen_in, ChoosingIn, ChoosingOf}
 use Rattle.check_types.specs.Labels.{LeadsTo}
 use Rattle.check_types.specs.declared.messages.Passing.{Passing}
-use Rattle.check_types.specs.declared.messages.Passing.TheVariants.{Passes}
-use Rattle.check_types.specs.declared.messages.Passing.TheVariants as NoPassing
 use Rattle.check_types.specs.declared.messages.Choosing.{Choosing}
-use Rattle.check_types.specs.declared.messages.Choosing.TheVariants.{Chooses}
-use Rattle.check_types.specs.declared.messages.Choosing.TheVariants as NoChoosing
 use Rattle.check_contexts.specs.Held.{channels_of, EndIn, HeldIn, end_is, end_found, FoundIn, Sees}
-use Rattle.check_contexts.specs.declared.held.Lookup.{Lookup}
-use Rattle.check_contexts.specs.declared.held.Lookup.TheVariants as lookups
 use Rattle.check_terms.specs.Next.{context_in}
 use Rattle.check_terms.specs.Rules.{passed_by, passes_over, chosen_by, chooses_over, taken_by, takes_from}
 
@@ -47,48 +40,51 @@ slot_of e = slot e.side e.type
 abbrev pub slot_in : List ℕ → List ℕ → EndWords → Slot
 slot_in s w e = slot (side_of e.side) (plain_in s w e.node)
 
-pub record Acts (s w : List ℕ) (h : Held) (at : ℕ) (r : Lookup) : Type 0 where
+pub record Acts (s w : List ℕ) (h : Held) (at : ℕ) (r : CodeOption EndWords) : Type 0 where
   pub is : acting (program_in s w) (name_at s at) (context_in s w h) ≡ map slot_of (end_found s w r)
   pub fits : FoundIn s w r
 
 pub record UnitOf (w : List ℕ) (i : ℕ) (r : Bool) : Type 0 where
   pub says : (s : List ℕ) → Tables s w → TypeIn s w i → r ≡ at_leaf (shape (plain_in s w i))
 
-abbrev pub typed_at : List ℕ → List ℕ → Found → Type 0
-typed_at s w (found.At j) = TypeIn s w j
-typed_at s w found.Nothing = Unit {0}
+abbrev pub typed_at : List ℕ → List ℕ → CodeOption ℕ → Type 0
+typed_at s w (Some j) = TypeIn s w j
+typed_at s w None = Unit {0}
 
-pub record PassesOver (s w : List ℕ) (c a : EndWords) (r : Found) : Type 0 where
+pub record PassesOver (s w : List ℕ) (c a : EndWords) (r : CodeOption ℕ) : Type 0 where
   pub is : passes_over (program_in s w) (slot_in s w c) (slot_in s w a) ≡ map (plain_in s w) (place_of r)
   pub type : typed_at s w r
 
-pub record ChoosesOver (s w : List ℕ) (c : EndWords) (at : ℕ) (r : Found) : Type 0 where
+pub record ChoosesOver (s w : List ℕ) (c : EndWords) (at : ℕ) (r : CodeOption ℕ) : Type 0 where
   pub is : chooses_over (slot_in s w c) (name_at s (at + 1)) ≡ map (plain_in s w) (place_of r)
   pub type : typed_at s w r
 
-pub record TakenFrom (s w : List ℕ) (c : EndWords) (r : Passing) : Type 0 where
+pub record TakenFrom (s w : List ℕ) (c : EndWords) (r : CodeOption Passing) : Type 0 where
   pub is : takes_from (slot_in s w c) ≡ passing_of s w r
   pub parts : passed_in s w r
 
-pub record TakesFrom (w : List ℕ) (c : EndWords) (r : Passing) : Type 0 where
+pub record TakesFrom (w : List ℕ) (c : EndWords) (r : CodeOption Passing) : Type 0 where
   pub says : (s : List ℕ) → Tables s w → EndIn s w (end_in c) → TakenFrom s w c r
 
 -- ── the channel that is acted on
-module _ (s w : List ℕ) (h : Held) (at : ℕ) where
-  acts_on_lem : (o : Option End) → lookup (name_at s at) (channels_of s w h) ≡ o → acting (program_in s w) (name_at s at) (context_in s w h) ≡ map (unfolded_slot (program_in s w)) (map slot_of o)
-  acts_on_lem o e = ap (map (unfolded_slot (program_in s w))) (context_lookup (name_at s at) (channels_of s w h) ∙ ap (map slot_of) e)
+acts_on_lem : (s w : List ℕ) (h : Held) (at : ℕ) (o : Option End) → lookup (name_at s at) (channels_of s w h) ≡ o
+    → acting (program_in s w) (name_at s at) (context_in s w h) ≡ map (unfolded_slot (program_in s w)) (map slot_of o)
+acts_on_lem s w h at o e = ap (map (unfolded_slot (program_in s w))) (context_lookup (name_at s at) (channels_of s w h) ∙ ap (map slot_of) e)
 
-  pub acts_nothing : (r : Lookup) → Sees s h at r → r ≡ lookups.Nothing → Acts s w h at lookups.Nothing
-  acts_nothing r f e = record { is = acts_on_lem none (f.is w ∙ ap (end_found s w) e); fits = omega arith }
+module _ {s w : List ℕ} {h : Held} {at : ℕ} where
+  pub acts_nothing : Sees s h at None → Acts s w h at None
+  acts_nothing f = record { is = acts_on_lem s w h at none (f.is w); fits = omega arith }
 
-  pub acts_found : (r : Lookup) (e : EndWords) (i j : ℕ) → Sees s h at r → r ≡ lookups.Found e → HeldIn s w h → i ≡ e.node → StandsFor s w i j → j < 512 → Acts s w h at (lookups.Found (record { name = e.name; side = e.side; node = j; channel = e.channel }))
-  acts_found r e i j f q t z g b =
-      let o : FoundIn s w (lookups.Found e) = subst (FoundIn s w) q (f.fits w t) in
+  pub acts_found : (e : EndWords) (i j : ℕ) {node : ℕ} → Sees s h at (Some e) → HeldIn s w h → i ≡ e.node → StandsFor s w i j → j < 512 → node ≡ j
+      → Acts s w h at (Some (record { name = e.name; side = e.side; node = node; channel = e.channel }))
+  acts_found e i j f t z g b q =
+      let o : FoundIn s w (Some e) = f.fits w t in
       let y : unfolded (program_in s w).types (plain_in s w e.node) ≡ plain_in s w j = ap (λ k. unfolded (program_in s w).types (plain_in s w k)) (sym z) ∙ sym g.is in
-      record {
-        is = acts_on_lem (some (end_is s w (end_in e)).1) (f.is w ∙ ap (end_found s w) q) ∙ ap (λ A. some (slot (side_of e.side) A)) y;
+      rw q
+      (record {
+        is = acts_on_lem s w h at (some (end_is s w (end_in e)).1) (f.is w) ∙ ap (λ A. some (slot (side_of e.side) A)) y;
         fits = (record { bounds = record { name = o.0.bounds.name; node = b; channel = o.0.bounds.channel }; type = g.type }, o.1);
-      }
+      })
 
 -- ── 1
 unit_shape : (s w : List ℕ) (n : TypeNode) (k : ℕ) {t : Shape} → ShapeIn s w n k t → eqb k 0 ≡ at_leaf t
@@ -112,73 +108,83 @@ pub typed_as : (s w : List ℕ) (e : EndWords) (i : ℕ) → i ≡ e.node → En
 typed_as s w e i z o = subst (TypeIn s w) (sym z) o.type
 
 -- ── a channel passed
-module _ (s w : List ℕ) (c a : EndWords) (i : ℕ) (z : i ≡ c.node) (r : Passing) (f : PassingIn s w i r) where
-  passed : passes_over (program_in s w) (slot_in s w c) (slot_in s w a) ≡ passed_by (program_in s w) (slot_in s w c) (slot_in s w a) (passing_of s w r)
-  passed = ap (λ k. passed_by (program_in s w) (slot_in s w c) (slot_in s w a) (passing (plain_in s w k))) (sym z) ∙ ap (passed_by (program_in s w) (slot_in s w c) (slot_in s w a)) f.is
+module _ {s w : List ℕ} (u : Tables s w) (c a : EndWords) (o : EndIn s w (end_in c)) (i : ℕ) (z : i ≡ c.node) where
+  pub passing_there : {r : CodeOption Passing} → PassingOf w i r → PassingIn s w i r
+  passing_there f = f.says s u (typed_as s w c i z o)
 
-  pub passes_nothing : r ≡ NoPassing.Nothing → PassesOver s w c a found.Nothing
-  passes_nothing e = record { is = passed ∙ ap (λ t. passed_by (program_in s w) (slot_in s w c) (slot_in s w a) (passing_of s w t)) e; type = tt }
+  passed : (r : CodeOption Passing) → PassingOf w i r → passes_over (program_in s w) (slot_in s w c) (slot_in s w a) ≡ passed_by (program_in s w) (slot_in s w c) (slot_in s w a) (passing_of s w r)
+  passed r f =
+      ap (λ k. passed_by (program_in s w) (slot_in s w c) (slot_in s w a) (passing (plain_in s w k))) (sym z)
+      ∙ ap (passed_by (program_in s w) (slot_in s w c) (slot_in s w a)) (passing_there f).is
 
-  module _ (sender side what after : ℕ) (e : r ≡ Passes sender side what after) (p : c.side < 2) (q : a.side < 2) where
-    parts : passed_in s w (Passes sender side what after)
-    parts = subst (passed_in s w) e f.parts
+  pub passes_nothing : PassingOf w i None → PassesOver s w c a None
+  passes_nothing f = record { is = passed None f; type = tt }
+
+  module _ (t : Passing) (f : PassingOf w i (Some t)) (p : c.side < 2) (q : a.side < 2) where
+    parts : passed_in s w (Some t)
+    parts = (passing_there f).parts
 
     abbrev same' : Bool
-    same' = same_type (program_in s w).types (plain_in s w a.node) (plain_in s w what)
+    same' = same_type (program_in s w).types (plain_in s w a.node) (plain_in s w t.what)
 
     abbrev outcome : Bool → Bool → Bool → Option (Ty Name)
-    outcome x y u = cond (x && (y && u)) (some (plain_in s w after)) none
+    outcome x y v = cond (x && (y && v)) (some (plain_in s w t.after)) none
 
-    tested : passes_over (program_in s w) (slot_in s w c) (slot_in s w a) ≡ outcome (same_side (side_of c.side) (side_of sender)) (same_side (side_of a.side) (side_of side)) same'
-    tested = passed ∙ ap (λ t. passed_by (program_in s w) (slot_in s w c) (slot_in s w a) (passing_of s w t)) e
+    tested : passes_over (program_in s w) (slot_in s w c) (slot_in s w a) ≡ outcome (same_side (side_of c.side) (side_of t.sender)) (same_side (side_of a.side) (side_of t.side)) same'
+    tested = passed (Some t) f
 
-    pub passes_other_end : (c.side ≡ sender → ⊥) → PassesOver s w c a found.Nothing
-    passes_other_end n = record { is = tested ∙ ap (λ x. outcome x (same_side (side_of a.side) (side_of side)) same') (different_sides c.side sender p parts.2 n); type = tt }
+    pub passes_other_end : (c.side ≡ t.sender → ⊥) → PassesOver s w c a None
+    passes_other_end n = record { is = tested ∙ ap (λ x. outcome x (same_side (side_of a.side) (side_of t.side)) same') (different_sides c.side t.sender p parts.2 n); type = tt }
 
-    pub passes_other_side : c.side ≡ sender → (a.side ≡ side → ⊥) → PassesOver s w c a found.Nothing
+    pub passes_other_side : c.side ≡ t.sender → (a.side ≡ t.side → ⊥) → PassesOver s w c a None
     passes_other_side m n = record {
-      is = tested ∙ λ j. outcome (equal_sides c.side sender p parts.2 m j) (different_sides a.side side q parts.3 n j) same';
+      is = tested ∙ λ j. outcome (equal_sides c.side t.sender p parts.2 m j) (different_sides a.side t.side q parts.3 n j) same';
       type = tt;
     }
 
-    abbrev after_if : Bool → Found
-    after_if true = found.At after
-    after_if false = found.Nothing
+    abbrev after_if : Bool → CodeOption ℕ
+    after_if true = Some t.after
+    after_if false = None
 
-    pub passes_by : c.side ≡ sender → a.side ≡ side → (b : Bool) → same' ≡ b → PassesOver s w c a (after_if b)
-    passes_by m n b o = go b (tested ∙ λ j. outcome (equal_sides c.side sender p parts.2 m j) (equal_sides a.side side q parts.3 n j) (o j))
+    pub passes_by : c.side ≡ t.sender → a.side ≡ t.side → (b : Bool) → same' ≡ b → PassesOver s w c a (after_if b)
+    passes_by m n b e = go b (tested ∙ λ j. outcome (equal_sides c.side t.sender p parts.2 m j) (equal_sides a.side t.side q parts.3 n j) (e j))
       where
         go : (b : Bool) → passes_over (program_in s w) (slot_in s w c) (slot_in s w a) ≡ outcome true true b → PassesOver s w c a (after_if b)
         go true y = record { is = y; type = parts.1 }
         go false y = record { is = y; type = tt }
 
 -- ── a label sent
-module _ (s w : List ℕ) (c : EndWords) (at i : ℕ) (z : i ≡ c.node) (r : Choosing) (f : ChoosingIn s w i r) where
-  chosen : chooses_over (slot_in s w c) (name_at s (at + 1)) ≡ chosen_by (slot_in s w c) (name_at s (at + 1)) (choosing_of s w r)
-  chosen = ap (λ k. chosen_by (slot_in s w c) (name_at s (at + 1)) (choosing (plain_in s w k))) (sym z) ∙ ap (chosen_by (slot_in s w c) (name_at s (at + 1))) f.is
+module _ {s w : List ℕ} (u : Tables s w) (c : EndWords) (at : ℕ) (o : EndIn s w (end_in c)) (i : ℕ) (z : i ≡ c.node) where
+  choosing_there : {r : CodeOption Choosing} → ChoosingOf w i r → ChoosingIn s w i r
+  choosing_there f = f.says s u (typed_as s w c i z o)
 
-  pub chooses_nothing : r ≡ NoChoosing.Nothing → ChoosesOver s w c at found.Nothing
-  chooses_nothing e = record { is = chosen ∙ ap (λ t. chosen_by (slot_in s w c) (name_at s (at + 1)) (choosing_of s w t)) e; type = tt }
+  chosen : (r : CodeOption Choosing) → ChoosingOf w i r → chooses_over (slot_in s w c) (name_at s (at + 1)) ≡ chosen_by (slot_in s w c) (name_at s (at + 1)) (choosing_of s w r)
+  chosen r f =
+      ap (λ k. chosen_by (slot_in s w c) (name_at s (at + 1)) (choosing (plain_in s w k))) (sym z)
+      ∙ ap (chosen_by (slot_in s w c) (name_at s (at + 1))) (choosing_there f).is
 
-  module _ (sender e n : ℕ) (q : r ≡ Chooses sender e n) (p : c.side < 2) where
-    pub listed : chosen_in s w (Chooses sender e n)
-    listed = subst (chosen_in s w) q f.parts
+  pub chooses_nothing : ChoosingOf w i None → ChoosesOver s w c at None
+  chooses_nothing f = record { is = chosen None f; type = tt }
+
+  module _ (t : Choosing) (f : ChoosingOf w i (Some t)) (p : c.side < 2) where
+    pub listed : chosen_in s w (Some t)
+    listed = (choosing_there f).parts
 
     abbrev led : Bool → Option (Ty Name)
-    led b = cond b (labelled (name_at s (at + 1)) (plains (alternatives_in s w e n))) none
+    led b = cond b (labelled (name_at s (at + 1)) (plains (alternatives_in s w t.place t.count))) none
 
-    chosen_by_lem : chooses_over (slot_in s w c) (name_at s (at + 1)) ≡ led (same_side (side_of c.side) (side_of sender))
-    chosen_by_lem = chosen ∙ ap (λ t. chosen_by (slot_in s w c) (name_at s (at + 1)) (choosing_of s w t)) q
+    chosen_by_lem : chooses_over (slot_in s w c) (name_at s (at + 1)) ≡ led (same_side (side_of c.side) (side_of t.sender))
+    chosen_by_lem = chosen (Some t) f
 
-    pub chooses_other_end : (c.side ≡ sender → ⊥) → ChoosesOver s w c at found.Nothing
-    chooses_other_end m = record { is = chosen_by_lem ∙ ap led (different_sides c.side sender p listed.0 m); type = tt }
+    pub chooses_other_end : (c.side ≡ t.sender → ⊥) → ChoosesOver s w c at None
+    chooses_other_end m = record { is = chosen_by_lem ∙ ap led (different_sides c.side t.sender p listed.0 m); type = tt }
 
-    pub chooses_by : (g : Found) → c.side ≡ sender → LeadsTo s w at e n g → ChoosesOver s w c at g
-    chooses_by g m l = record { is = chosen_by_lem ∙ ap led (equal_sides c.side sender p listed.0 m) ∙ l.is; type = leads g l.type }
+    pub chooses_by : (g : CodeOption ℕ) → c.side ≡ t.sender → LeadsTo s w at t.place t.count g → ChoosesOver s w c at g
+    chooses_by g m l = record { is = chosen_by_lem ∙ ap led (equal_sides c.side t.sender p listed.0 m) ∙ l.is; type = leads g l.type }
       where
-        leads : (g : Found) → ((j : ℕ) → g ≡ found.At j → TypeIn s w j) → typed_at s w g
-        leads (found.At j) h = h j refl
-        leads found.Nothing h = tt
+        leads : (g : CodeOption ℕ) → ((j : ℕ) → g ≡ Some j → TypeIn s w j) → typed_at s w g
+        leads (Some j) h = h j refl
+        leads None h = tt
 
 -- ── a channel received
 pub other_so : (b : ℕ) (s : Side) → same_side (side_of b) (other s) ≡ not (same_side (side_of b) s)
@@ -187,32 +193,28 @@ other_so zero used = refl
 other_so (suc b) provided = refl
 other_so (suc b) used = refl
 
-module _ (w : List ℕ) (c : EndWords) (i : ℕ) (z : i ≡ c.node) (r : Passing) (f : PassingOf w i r) where
-  module _ (s : List ℕ) (t : Tables s w) (o : EndIn s w (end_in c)) where
-    said : PassingIn s w i r
-    said = f.says s t (typed_as s w c i z o)
+module _ {w : List ℕ} (c : EndWords) (i : ℕ) (z : i ≡ c.node) where
+  taken : (s : List ℕ) (t : Tables s w) (o : EndIn s w (end_in c)) (r : CodeOption Passing) → PassingOf w i r → takes_from (slot_in s w c) ≡ taken_by (slot_in s w c) (passing_of s w r)
+  taken s t o r f = ap (λ k. taken_by (slot_in s w c) (passing (plain_in s w k))) (sym z) ∙ ap (taken_by (slot_in s w c)) (passing_there t c c o i z f).is
 
-    taken : takes_from (slot_in s w c) ≡ taken_by (slot_in s w c) (passing_of s w r)
-    taken = ap (λ k. taken_by (slot_in s w c) (passing (plain_in s w k))) (sym z) ∙ ap (taken_by (slot_in s w c)) said.is
+  pub takes_nothing : PassingOf w i None → TakesFrom w c None
+  takes_nothing f = record { says = λ s t o. record { is = taken s t o None f; parts = tt } }
 
-  pub takes_nothing : r ≡ NoPassing.Nothing → TakesFrom w c r
-  takes_nothing e = record { says = λ s t o. record { is = taken s t o ∙ ap (λ u. taken_by (slot_in s w c) (passing_of s w u)) e ∙ ap (passing_of s w) (sym e); parts = (said s t o).parts } }
-
-  module _ (sender side what after : ℕ) (e : r ≡ Passes sender side what after) (p : c.side < 2) where
+  module _ (t : Passing) (f : PassingOf w i (Some t)) (p : c.side < 2) where
     abbrev given : List ℕ → calculus.Passing
-    given s = record { sender = side_of sender; side = side_of side; what = plain_in s w what; after = plain_in s w after }
+    given s = record { sender = side_of t.sender; side = side_of t.side; what = plain_in s w t.what; after = plain_in s w t.after }
 
     abbrev ours : List ℕ → Bool → Option calculus.Passing
     ours s b = cond b (some (given s)) none
 
-    taken_by_lem : (s : List ℕ) (t : Tables s w) (o : EndIn s w (end_in c)) → takes_from (slot_in s w c) ≡ ours s (not (same_side (side_of c.side) (side_of sender)))
-    taken_by_lem s t o = taken s t o ∙ ap (λ u. taken_by (slot_in s w c) (passing_of s w u)) e ∙ ap (ours s) (other_so c.side (side_of sender))
+    taken_by_lem : (s : List ℕ) (u : Tables s w) (o : EndIn s w (end_in c)) → takes_from (slot_in s w c) ≡ ours s (not (same_side (side_of c.side) (side_of t.sender)))
+    taken_by_lem s u o = taken s u o (Some t) f ∙ ap (ours s) (other_so c.side (side_of t.sender))
 
-    small : (s : List ℕ) (t : Tables s w) (o : EndIn s w (end_in c)) → sender < 2
-    small s t o = (subst (passed_in s w) e (said s t o).parts).2
+    there : (s : List ℕ) (u : Tables s w) (o : EndIn s w (end_in c)) → passed_in s w (Some t)
+    there s u o = (passing_there u c c o i z f).parts
 
-    pub takes_own_end : c.side ≡ sender → TakesFrom w c NoPassing.Nothing
-    takes_own_end m = record { says = λ s t o. record { is = taken_by_lem s t o ∙ ap (λ b. ours s (not b)) (equal_sides c.side sender p (small s t o) m); parts = tt } }
+    pub takes_own_end : c.side ≡ t.sender → TakesFrom w c None
+    takes_own_end m = record { says = λ s u o. record { is = taken_by_lem s u o ∙ ap (λ b. ours s (not b)) (equal_sides c.side t.sender p (there s u o).2 m); parts = tt } }
 
-    pub takes_by : (c.side ≡ sender → ⊥) → TakesFrom w c r
-    takes_by m = record { says = λ s t o. record { is = taken_by_lem s t o ∙ ap (λ b. ours s (not b)) (different_sides c.side sender p (small s t o) m) ∙ ap (passing_of s w) (sym e); parts = (said s t o).parts } }
+    pub takes_by : (c.side ≡ t.sender → ⊥) → TakesFrom w c (Some t)
+    takes_by m = record { says = λ s u o. record { is = taken_by_lem s u o ∙ ap (λ b. ours s (not b)) (different_sides c.side t.sender p (there s u o).2 m); parts = there s u o } }

@@ -1,13 +1,12 @@
 -- What the typing rule of a call asks of its two lists together.
 use Rattle.std.specs.Prelude.{ℕ, ◌+◌, ◌≡◌, refl, List, [], ◌∷◌, ◌++◌, Bool, true, false, cond, not, ◌&&◌}
+use Rattle.std.specs.Prelude.{Option as CodeOption, Some, None, Result, Ok, Err}
 use Rattle.std.proofs.Common.{sym, ◌∙◌, subst}
 use Rattle.std.proofs.Math.Path.{ap}
 use Rattle.std.proofs.Math.Option.{Option, some, none, map}
 use Rattle.notation.specs.Bytes.{same}
 use Rattle.notation.specs.Token.{name_at, token_at}
 use Rattle.notation.specs.Tree.{Name, Located}
-use Rattle.notation.specs.declared.reading.Found.{Found}
-use Rattle.notation.specs.declared.reading.Found.TheVariants as found
 use Rattle.calculus.specs.Named.{lookup, without, is_some, every, any_of, distinct}
 use Rattle.calculus.specs.Types.{provided, used}
 use Rattle.calculus.specs.Mentions.{is_one_of}
@@ -19,17 +18,16 @@ use Rattle.calculus.specs.Configuration.{End}
 use Rattle.calculus.specs.WellFormed.{context_of}
 use Rattle.theory_ends.specs.Contexts.{context_without}
 use Rattle.run_words.specs.declared.records.Held.{Held}
-use Rattle.read_tables.specs.Access.{SignatureOf, as_entry}
+use Rattle.read_tables.specs.Access.{SignatureOf}
 use Rattle.read_tables.specs.Decode.{tally_in, entries_in}
 use Rattle.read_tables.specs.Names.{NamesFrom, CallAt}
 use Rattle.read_tables.specs.Program.{program_in, named_process, signature_of}
 use Rattle.read_tables.specs.Search.{place_of, Sought}
-use Rattle.read_tables.specs.Whole.{Tables, SignatureIn}
 use Rattle.read_tables.specs.declared.access.Declared.{Declared}
 use Rattle.check_contexts.specs.Held.{channels_of}
 use Rattle.check_contexts.specs.Walks.{Ends}
 use Rattle.check_terms.specs.Next.{Step, go, asking, granted, context_in}
-use Rattle.check_terms.specs.Endings.{number_of, calls, none_left, some_left}
+use Rattle.check_terms.specs.Endings.{answer_of, calls, none_left, some_left}
 use Rattle.check_terms.specs.Lists.{AllHeld, Fit, Distinct, apart, any_is, Apart, Without}
 
 -- of two lists that go on from a and b, and what their names are
@@ -54,8 +52,8 @@ fits_signature p G xs ys (some s) = list_fits p G provided xs s.provides && list
 pub record BothFit (s w : List ℕ) (h : Held) (q a b : ℕ) (r : Bool) : Type 0 where
   pub is : Of s a b (λ xs ys. r ≡ fits_signature (program_in s w) (context_in s w h) (names_of xs) (names_of ys) (lookup (name_at s q) (program_in s w).processes))
 
-pub record ListsRefused (s w : List ℕ) (h : Held) (q a b n : ℕ) : Type 0 where
-  pub is : Of s a b (λ xs ys. n ≡ number_of (calls (program_in s w) (name_at s q) (names_of xs) (names_of ys) (context_in s w h)))
+pub record ListsChecked (s w : List ℕ) (h : Held) (q a b : ℕ) (r : Result (Unit {0}) ℕ) : Type 0 where
+  pub is : Of s a b (λ xs ys. r ≡ answer_of (calls (program_in s w) (name_at s q) (names_of xs) (names_of ys) (context_in s w h)))
 
 -- ── laws of lists one after the other
 all_append : {A : Type 0} (p : A → Bool) (l m : List A) → every p (l ++ m) ≡ every p l && every p m
@@ -102,29 +100,39 @@ context_without_all [] l = refl
 context_without_all (n ∷ ns) l = ap (without_all ns) (context_without n l) ∙ context_without_all ns (without n l)
 
 -- ── the ways through the code
-module _ (s : List ℕ) (a b : ℕ) where
-  module _ (p q r : Bool) (f : Distinct s a p) (g : Apart s a b q) (k : Distinct s b r) where
-    distinct_by : (x y z : Bool) → p ≡ x → q ≡ y → r ≡ z → Of s a b (λ xs ys. x && (y && z) ≡ distinct (names_of xs ++ names_of ys))
-    distinct_by x y z u v o xs ys rest rest' n m =
-        sym (distinct_append xs ys ∙ λ j. (sym (f.is xs rest n) ∙ u) j && ((sym (g.is xs ys rest rest' n m) ∙ v) j && (sym (k.is ys rest' m) ∙ o) j))
+module _ {s : List ℕ} {a b : ℕ} where
+  -- the first list is distinct, the two are apart, the second is distinct
+  pub not_distinct_first : Distinct s a false → BothDistinct s a b false
+  not_distinct_first f = record { is = λ xs ys rest rest' n m. sym (distinct_append xs ys ∙ ap (λ c. c && (apart xs ys && distinct (names_of ys))) (sym (f.is xs rest n))) }
 
-  pub not_distinct_first : (p : Bool) → Distinct s a p → p ≡ false → BothDistinct s a b false
-  not_distinct_first p f u = record { is = λ xs ys rest rest' n m. sym (distinct_append xs ys ∙ λ j. (sym (f.is xs rest n) ∙ u) j && (apart xs ys && distinct (names_of ys))) }
+  module _ (f : Distinct s a true) where
+    pub not_apart : Apart s a b false → BothDistinct s a b false
+    not_apart g = record {
+      is = λ xs ys rest rest' n m.
+          sym (distinct_append xs ys ∙ λ j. sym (f.is xs rest n) j && (sym (g.is xs ys rest rest' n m) j && distinct (names_of ys)));
+    }
 
-  pub not_apart : (p q : Bool) → Distinct s a p → p ≡ true → Apart s a b q → q ≡ false → BothDistinct s a b false
-  not_apart p q f u g v = record { is = λ xs ys rest rest' n m. sym (distinct_append xs ys ∙ λ j. (sym (f.is xs rest n) ∙ u) j && ((sym (g.is xs ys rest rest' n m) ∙ v) j && distinct (names_of ys))) }
+    pub distinct_last : Apart s a b true → {r : Bool} → Distinct s b r → BothDistinct s a b r
+    distinct_last g k = record {
+      is = λ xs ys rest rest' n m.
+          sym (distinct_append xs ys ∙ λ j. sym (f.is xs rest n) j && (sym (g.is xs ys rest rest' n m) j && sym (k.is ys rest' m) j));
+    }
 
-  pub distinct_last : (p q r : Bool) → Distinct s a p → p ≡ true → Apart s a b q → q ≡ true → Distinct s b r → BothDistinct s a b r
-  distinct_last p q r f u g v k = record { is = distinct_by p q r f g k true true r u v refl }
+  module _ {h : Held} where
+    pub not_held_first : AllHeld s h a false → BothHeld s h a b false
+    not_held_first f = record {
+      is = λ w xs ys rest rest' n m. sym (all_append _ (names_of xs) (names_of ys) ∙ ap (λ c. c && every (λ k. is_some (lookup k (context_in s w h))) (names_of ys)) (sym (f.is w xs rest n)));
+    }
 
-  pub not_held_first : (h : Held) (p : Bool) → AllHeld s h a p → p ≡ false → BothHeld s h a b false
-  not_held_first h p f u = record { is = λ w xs ys rest rest' n m. sym (all_append _ (names_of xs) (names_of ys) ∙ ap (λ c. c && every (λ k. is_some (lookup k (context_in s w h))) (names_of ys)) (sym (f.is w xs rest n) ∙ u)) }
+    pub held_last : AllHeld s h a true → {r : Bool} → AllHeld s h b r → BothHeld s h a b r
+    held_last f k = record {
+      is = λ w xs ys rest rest' n m.
+          k.is w ys rest' m
+          ∙ sym (all_append _ (names_of xs) (names_of ys) ∙ ap (λ c. c && every (λ k. is_some (lookup k (context_in s w h))) (names_of ys)) (sym (f.is w xs rest n)));
+    }
 
-  pub held_last : (h : Held) (p r : Bool) → AllHeld s h a p → p ≡ true → AllHeld s h b r → BothHeld s h a b r
-  held_last h p r f u k = record { is = λ w xs ys rest rest' n m. k.is w ys rest' m ∙ sym (all_append _ (names_of xs) (names_of ys) ∙ ap (λ c. c && every (λ k. is_some (lookup k (context_in s w h))) (names_of ys)) (sym (f.is w xs rest n) ∙ u)) }
-
-  pub counts_left : (h l r : Held) → Without s h a l → Without s l b r → BothWithout s h a b r.count
-  counts_left h l r f g = record {
+  pub counts_left : {h l r : Held} → Without s h a l → Without s l b r → BothWithout s h a b r.count
+  counts_left {h} {l} {r} f g = record {
     none = λ z w xs ys rest rest' n m. ap is_nil (left w xs ys rest rest' n m) ∙ none_left s w r z;
     some = λ z w xs ys rest rest' n m. ap is_nil (left w xs ys rest rest' n m) ∙ some_left s w r z;
   }
@@ -136,33 +144,34 @@ module _ (s : List ℕ) (a b : ℕ) where
           ∙ context_without_all (names_of ys) (channels_of s w l)
           ∙ ap context_of (sym (g.is w ys rest' m))
 
-  -- ── the signature
-  module _ (w : List ℕ) (h : Held) (q : ℕ) (r : Found) (f : Sought (name_at s q) (program_in s w).processes (named_process s w) (tally_in w).processes r) where
-    pub fits_nothing : r ≡ found.Nothing → BothFit s w h q a b false
-    fits_nothing e = record { is = λ xs ys rest rest' n m. sym (ap (fits_signature (program_in s w) (context_in s w h) (names_of xs) (names_of ys)) (f.is ∙ ap (λ x. map (λ i. (named_process s w i).1) (place_of x)) e)) }
+-- ── the signature
+module _ (s w : List ℕ) (h : Held) (q : ℕ) {r : CodeOption ℕ} (f : Sought (name_at s q) (program_in s w).processes (named_process s w) (tally_in w).processes r) where
+  pub fits_nothing : {a b : ℕ} → r ≡ None → BothFit s w h q a b false
+  fits_nothing e = record { is = λ xs ys rest rest' n m. sym (ap (fits_signature (program_in s w) (context_in s w h) (names_of xs) (names_of ys)) (f.is ∙ ap (λ x. map (λ i. (named_process s w i).1) (place_of x)) e)) }
 
-    module _ (k : ℕ) (e : r ≡ found.At k) (d : Declared) (g : SignatureOf w k d) where
-      abbrev first_fits : List Located → Bool
-      first_fits xs = list_fits (program_in s w) (context_in s w h) provided (names_of xs) (entries (entries_in s w d.first d.provided))
+  module _ {k : ℕ} (e : r ≡ Some k) {d : Declared} (g : SignatureOf w k d) where
+    fits_by : (xs ys : List Located) → fits_signature (program_in s w) (context_in s w h) (names_of xs) (names_of ys) (lookup (name_at s q) (program_in s w).processes)
+        ≡ list_fits (program_in s w) (context_in s w h) provided (names_of xs) (entries (entries_in s w d.first d.provided))
+        && list_fits (program_in s w) (context_in s w h) used (names_of ys) (entries (entries_in s w (d.first + d.provided) d.used))
+    unfolding signature_of
+    fits_by xs ys =
+        ap (fits_signature (program_in s w) (context_in s w h) (names_of xs) (names_of ys)) (f.is ∙ ap (λ x. map (λ i. (named_process s w i).1) (place_of x)) e ∙ ap (λ (x : Name × Signature). some x.1) (g.is s))
 
-      abbrev last_fits : List Located → Bool
-      last_fits ys = list_fits (program_in s w) (context_in s w h) used (names_of ys) (entries (entries_in s w (d.first + d.provided) d.used))
+    module _ {a b : ℕ} where
+      pub fits_not : Fit s w h a 0 d.first d.provided false → BothFit s w h q a b false
+      fits_not u = record {
+        is = λ xs ys rest rest' n m.
+            sym (fits_by xs ys ∙ ap (λ c. c && list_fits (program_in s w) (context_in s w h) used (names_of ys) (entries (entries_in s w (d.first + d.provided) d.used))) (sym (u.is xs rest n)));
+      }
 
-      fits_by : (xs ys : List Located) → fits_signature (program_in s w) (context_in s w h) (names_of xs) (names_of ys) (lookup (name_at s q) (program_in s w).processes) ≡ first_fits xs && last_fits ys
-      unfolding signature_of
-      fits_by xs ys =
-          ap (fits_signature (program_in s w) (context_in s w h) (names_of xs) (names_of ys)) (f.is ∙ ap (λ x. map (λ i. (named_process s w i).1) (place_of x)) e ∙ ap (λ (x : Name × Signature). some x.1) (g.is s))
+      pub fits_last : Fit s w h a 0 d.first d.provided true → {o : Bool} → Fit s w h b 1 (d.first + d.provided) d.used o → BothFit s w h q a b o
+      fits_last u v = record {
+        is = λ xs ys rest rest' n m.
+            v.is ys rest' m
+            ∙ sym (fits_by xs ys ∙ ap (λ c. c && list_fits (program_in s w) (context_in s w h) used (names_of ys) (entries (entries_in s w (d.first + d.provided) d.used))) (sym (u.is xs rest n)));
+      }
 
-      pub signature_there : Tables s w → SignatureIn s w (as_entry d)
-      signature_there t = g.stands s t (f.below k e)
-
-      pub fits_not : (p : Bool) → Fit s w h a 0 d.first d.provided p → p ≡ false → BothFit s w h q a b false
-      fits_not p u z = record { is = λ xs ys rest rest' n m. sym (fits_by xs ys ∙ ap (λ c. c && last_fits ys) (sym (u.is xs rest n) ∙ z)) }
-
-      pub fits_last : (p o : Bool) → Fit s w h a 0 d.first d.provided p → p ≡ true → Fit s w h b 1 (d.first + d.provided) d.used o → BothFit s w h q a b o
-      fits_last p o u z v = record { is = λ xs ys rest rest' n m. v.is ys rest' m ∙ sym (fits_by xs ys ∙ ap (λ c. c && last_fits ys) (sym (u.is xs rest n) ∙ z)) }
-
--- ── the number
+-- ── the answer
 module _ (s w : List ℕ) (h : Held) (q a b : ℕ) where
   abbrev G : Context
   G = context_in s w h
@@ -192,37 +201,37 @@ module _ (s w : List ℕ) (h : Held) (q a b : ℕ) where
   abbrev nil? : List Located → List Located → Bool
   nil? xs ys = is_nil (without_all (names_of xs ++ names_of ys) G)
 
-  module _ (x : Bool) (f : BothHeld s h a b x) where
-    pub number_held : x ≡ false → ListsRefused s w h q a b 10
-    number_held e = record { is = λ xs ys rest rest' n m. sym (ap number_of (calls_by (names_of xs) (names_of ys) ∙ λ j. by ((sym (f.is w xs ys rest rest' n m) ∙ e) j) (fit? xs ys) (distinct? xs ys) (nil? xs ys))) }
+  pub checked_held : BothHeld s h a b false → ListsChecked s w h q a b (Err 10)
+  checked_held f = record { is = λ xs ys rest rest' n m. sym (ap answer_of (calls_by (names_of xs) (names_of ys) ∙ λ j. by (sym (f.is w xs ys rest rest' n m) j) (fit? xs ys) (distinct? xs ys) (nil? xs ys))) }
 
-    module _ (p : x ≡ true) (y : Bool) (g : BothFit s w h q a b y) where
-      pub number_fit : y ≡ false → ListsRefused s w h q a b 11
-      number_fit e = record { is = λ xs ys rest rest' n m. sym (ap number_of (calls_by (names_of xs) (names_of ys) ∙ λ j. by ((sym (f.is w xs ys rest rest' n m) ∙ p) j) ((sym (g.is xs ys rest rest' n m) ∙ e) j) (distinct? xs ys) (nil? xs ys))) }
+  module _ (f : BothHeld s h a b true) where
+    pub checked_fit : BothFit s w h q a b false → ListsChecked s w h q a b (Err 11)
+    checked_fit g = record { is = λ xs ys rest rest' n m. sym (ap answer_of (calls_by (names_of xs) (names_of ys) ∙ λ j. by (sym (f.is w xs ys rest rest' n m) j) (sym (g.is xs ys rest rest' n m) j) (distinct? xs ys) (nil? xs ys))) }
 
-      module _ (o : y ≡ true) (z : Bool) (k : BothDistinct s a b z) where
-        pub number_distinct : z ≡ false → ListsRefused s w h q a b 11
-        number_distinct e = record {
-          is = λ xs ys rest rest' n m.
-              sym (ap number_of (calls_by (names_of xs) (names_of ys) ∙ λ j. by ((sym (f.is w xs ys rest rest' n m) ∙ p) j) ((sym (g.is xs ys rest rest' n m) ∙ o) j) ((sym (k.is xs ys rest rest' n m) ∙ e) j) (nil? xs ys)));
-        }
+    module _ (g : BothFit s w h q a b true) where
+      checked : {z u : Bool} → BothDistinct s a b z → Of s a b (λ xs ys. is_nil (without_all (names_of xs ++ names_of ys) G) ≡ u) → ListsChecked s w h q a b (answer_of (by true true z u))
+      checked k v = record {
+        is = λ xs ys rest rest' n m.
+            sym (ap answer_of (calls_by (names_of xs) (names_of ys) ∙ λ j. by (sym (f.is w xs ys rest rest' n m) j) (sym (g.is xs ys rest rest' n m) j) (sym (k.is xs ys rest rest' n m) j) (v xs ys rest rest' n m j)));
+      }
 
-        numbered : (u : Bool) → z ≡ true → Of s a b (λ xs ys. is_nil (without_all (names_of xs ++ names_of ys) G) ≡ u) → ListsRefused s w h q a b (number_of (granted 13 u (go G)))
-        numbered u e v = record {
-          is = λ xs ys rest rest' n m.
-              sym (ap number_of (calls_by (names_of xs) (names_of ys) ∙ λ j. by ((sym (f.is w xs ys rest rest' n m) ∙ p) j) ((sym (g.is xs ys rest rest' n m) ∙ o) j) ((sym (k.is xs ys rest rest' n m) ∙ e) j) (v xs ys rest rest' n m j)));
-        }
+      pub checked_distinct : BothDistinct s a b false → ListsChecked s w h q a b (Err 11)
+      checked_distinct k = record {
+        is = λ xs ys rest rest' n m.
+            sym (ap answer_of (calls_by (names_of xs) (names_of ys) ∙ λ j. by (sym (f.is w xs ys rest rest' n m) j) (sym (g.is xs ys rest rest' n m) j) (sym (k.is xs ys rest rest' n m) j) (nil? xs ys)));
+      }
 
-        pub number_fine : z ≡ true → (i : ℕ) → BothWithout s h a b i → i ≡ 0 → ListsRefused s w h q a b 0
-        number_fine e i l c = numbered true e (l.none c w)
+      module _ (k : BothDistinct s a b true) {i : ℕ} (l : BothWithout s h a b i) where
+        pub checked_left : (i ≡ 0 → ⊥) → ListsChecked s w h q a b (Err 13)
+        checked_left c = checked k (l.some c w)
 
-        pub number_left : z ≡ true → (i : ℕ) → BothWithout s h a b i → (i ≡ 0 → ⊥) → ListsRefused s w h q a b 13
-        number_left e i l c = numbered false e (l.some c w)
+        pub checked_fine : i ≡ 0 → ListsChecked s w h q a b (Ok tt)
+        checked_fine c = checked k (l.none c w)
 
 -- by the bracket
-pub call_number : (s w : List ℕ) (h : Held) (q bracket a m b n : ℕ) (xs ys : List Located) → CallAt s bracket xs ys → a ≡ (token_at s bracket).end → Ends s a m → b ≡ (token_at s m).end → ListsRefused s w h q a b n
-    → n ≡ number_of (calls (program_in s w) (name_at s q) (names_of xs) (names_of ys) (context_in s w h))
-call_number s w h q bracket a m b n xs ys c p e r l =
+pub call_checked : (s w : List ℕ) (h : Held) (q bracket a m b : ℕ) (n : Result (Unit {0}) ℕ) (xs ys : List Located) → CallAt s bracket xs ys → a ≡ (token_at s bracket).end → Ends s a m → b ≡ (token_at s m).end → ListsChecked s w h q a b n
+    → n ≡ answer_of (calls (program_in s w) (name_at s q) (names_of xs) (names_of ys) (context_in s w h))
+call_checked s w h q bracket a m b n xs ys c p e r l =
     let o : NamesFrom s a xs c.middle = subst (λ i. NamesFrom s i xs c.middle) (sym p) c.provided in
     let v : b ≡ (token_at s c.middle).end = r ∙ ap (λ i. (token_at s i).end) (e.is xs _ o) in
     l.is xs ys _ _ o (subst (λ i. NamesFrom s i ys c.end) (sym v) c.used)

@@ -1,8 +1,7 @@
 -- What the typing rules ask of a term that ends its process.
-use Rattle.std.specs.Prelude.{ℕ, zero, suc, ◌<◌, ◌≡◌, refl, List, [], ◌∷◌, ◌++◌, Bool, true, false, ◌&&◌, length}
+use Rattle.std.specs.Prelude.{ℕ, ◌<◌, ◌≡◌, refl, List, [], ◌∷◌, ◌++◌, Bool, true, false, ◌&&◌, length, Option, None, Result, Ok, Err}
 use Rattle.std.proofs.Math.Path.{sym, ap}
 use Rattle.std.proofs.Common.{◌∙◌, arith}
-use Rattle.std.proofs.Math.Option.{some, none}
 use Rattle.notation.specs.Token.{name_at}
 use Rattle.notation.specs.Tree.{Name, Located, fwd, call}
 use Rattle.calculus.specs.Named.{lookup, without, is_some, every, distinct}
@@ -18,20 +17,21 @@ use Rattle.run_words.specs.Raw.{side_of}
 use Rattle.run_words.specs.declared.records.End.{End as EndWords}
 use Rattle.run_words.specs.declared.records.Held.{Held}
 use Rattle.read_tables.specs.Program.{plain_in, program_in}
-use Rattle.check_contexts.specs.Held.{Drops}
+use Rattle.check_contexts.specs.Held.{Sees, Drops}
 use Rattle.check_terms.specs.Findings.{Finding, lacking, found}
 use Rattle.check_terms.specs.Next.{Step, stop, go, asking, granted, resume, context_in, asking_none, asking_some, having_asks, demand_asks}
 use Rattle.check_terms.specs.Acting.{slot_in, different_sides, equal_sides}
-use Rattle.check_terms.specs.Sends.{dropped, count_so}
+use Rattle.check_terms.specs.Sends.{dropped, count_so, Seen, sees_not}
 
--- the refusal's number, or 0
-abbrev pub number_of : Step → ℕ
-number_of (stop n) = n
-number_of (go G) = 0
+-- what the code answers: a refusal by its number, or nothing
+abbrev pub answer_of : Step → Result (Unit {0}) ℕ
+answer_of (stop n) = Err n
+answer_of (go G) = Ok tt
 
-abbrev pub verdict_by : ℕ → ℕ → Verdict
-verdict_by at zero = fine
-verdict_by at (suc n) = refused (suc n) at
+-- the verdict that it stands for, of a term whose first token stands at an offset
+abbrev pub verdict_by : ℕ → Result (Unit {0}) ℕ → Verdict
+verdict_by at (Ok x) = fine
+verdict_by at (Err n) = refused n at
 
 -- ── fwd x c
 abbrev pub joins : Program → Slot → Slot → Bool
@@ -72,17 +72,20 @@ found_call p G at q bracket xs ys =
 
 -- ── the ways through the code of fwd
 module _ (s w : List ℕ) (x c : EndWords) (p : x.side < 2) (q : c.side < 2) where
-  abbrev equal? : Bool
-  equal? = same_type (program_in s w).types (plain_in s w c.node) (plain_in s w x.node)
-
   pub joins_not_provided : (x.side ≡ 0 → ⊥) → false ≡ joins (program_in s w) (slot_in s w x) (slot_in s w c)
-  joins_not_provided n = sym (ap (λ b. b && (same_side (side_of c.side) used && equal?)) (different_sides x.side 0 p (omega arith) n))
+  joins_not_provided n =
+      sym (ap (λ b. b && (same_side (side_of c.side) used && same_type (program_in s w).types (plain_in s w c.node) (plain_in s w x.node))) (different_sides x.side 0 p (omega arith) n))
 
-  pub joins_not_used : x.side ≡ 0 → (c.side ≡ 1 → ⊥) → false ≡ joins (program_in s w) (slot_in s w x) (slot_in s w c)
-  joins_not_used m n = sym λ j. equal_sides x.side 0 p (omega arith) m j && (different_sides c.side 1 q (omega arith) n j && equal?)
+  module _ (m : x.side ≡ 0) where
+    pub joins_not_used : (c.side ≡ 1 → ⊥) → false ≡ joins (program_in s w) (slot_in s w x) (slot_in s w c)
+    joins_not_used n =
+        sym λ j. equal_sides x.side 0 p (omega arith) m j && (different_sides c.side 1 q (omega arith) n j && same_type (program_in s w).types (plain_in s w c.node) (plain_in s w x.node))
 
-  pub joins_so : {r : Bool} → x.side ≡ 0 → c.side ≡ 1 → r ≡ equal? → r ≡ joins (program_in s w) (slot_in s w x) (slot_in s w c)
-  joins_so m n e = e ∙ sym λ j. equal_sides x.side 0 p (omega arith) m j && (equal_sides c.side 1 q (omega arith) n j && equal?)
+    pub joins_so : {r : Bool} {i k : ℕ} → c.side ≡ 1 → i ≡ c.node → k ≡ x.node → r ≡ same_type (program_in s w).types (plain_in s w i) (plain_in s w k) → r ≡ joins (program_in s w) (slot_in s w x) (slot_in s w c)
+    joins_so n y z e =
+        e
+        ∙ (λ j. same_type (program_in s w).types (plain_in s w (y j)) (plain_in s w (z j)))
+        ∙ sym λ j. equal_sides x.side 0 p (omega arith) m j && (equal_sides c.side 1 q (omega arith) n j && same_type (program_in s w).types (plain_in s w c.node) (plain_in s w x.node))
 
 -- nothing is held where nothing is counted
 nil_zero : {A : Type 0} (l : List A) → length l ≡ 0 → is_nil l ≡ true
@@ -99,39 +102,33 @@ none_left s w r e = nil_zero (context_in s w r) (count_so s w r ∙ e)
 pub some_left : (s w : List ℕ) (r : Held) → (r.count ≡ 0 → ⊥) → is_nil (context_in s w r) ≡ false
 some_left s w r e = nil_not (context_in s w r) (λ z. e (sym (count_so s w r) ∙ z))
 
-module _ (s w : List ℕ) (h : Held) (x c : ℕ) where
-  abbrev G : Context
-  G = context_in s w h
-
-  abbrev number : ℕ
-  number = number_of (forwards (program_in s w) (name_at s x) (name_at s c) G)
-
-  pub forwards_no_x : lookup (name_at s x) G ≡ none → 10 ≡ number
+module _ {s : List ℕ} (w : List ℕ) {h : Held} {x : ℕ} (c : ℕ) where
+  pub forwards_no_x : {r : Option EndWords} → Sees s h x r → r ≡ None → answer_of (forwards (program_in s w) (name_at s x) (name_at s c) (context_in s w h)) ≡ Err 10
   unfolding forwards
-  forwards_no_x e = sym (ap number_of (asking_none 10 _ e))
+  forwards_no_x f z = ap answer_of (asking_none 10 _ (sees_not w f z))
 
-  module _ (d : Slot) (f : lookup (name_at s x) G ≡ some d) where
-    pub forwards_no_c : lookup (name_at s c) G ≡ none → 10 ≡ number
+  module _ {d : EndWords} (f : Seen s w h x d) where
+    pub forwards_no_c : {r : Option EndWords} → Sees s h c r → r ≡ None → answer_of (forwards (program_in s w) (name_at s x) (name_at s c) (context_in s w h)) ≡ Err 10
     unfolding forwards
-    forwards_no_c e = sym (ap number_of (asking_some 10 _ f ∙ asking_none 10 _ e))
+    forwards_no_c g z = ap answer_of (asking_some 10 _ f.is ∙ asking_none 10 _ (sees_not w g z))
 
-    module _ (e : Slot) (g : lookup (name_at s c) G ≡ some e) where
-      abbrev after : Bool → Bool → Step
-      after a b = granted 11 a (granted 13 b (go G))
-
-      both : (a b : Bool) → joins (program_in s w) d e ≡ a → is_nil (without_all (name_at s x ∷ name_at s c ∷ []) G) ≡ b → forwards (program_in s w) (name_at s x) (name_at s c) G ≡ after a b
+    module _ {e : EndWords} (g : Seen s w h c e) where
+      forwards_by : {a b : Bool} → joins (program_in s w) (slot_in s w d) (slot_in s w e) ≡ a → is_nil (without_all (name_at s x ∷ name_at s c ∷ []) (context_in s w h)) ≡ b
+          → forwards (program_in s w) (name_at s x) (name_at s c) (context_in s w h) ≡ granted 11 a (granted 13 b (go (context_in s w h)))
       unfolding forwards
-      both a b p q = asking_some 10 _ f ∙ asking_some 10 _ g ∙ λ j. after (p j) (q j)
+      forwards_by p q = asking_some 10 _ f.is ∙ asking_some 10 _ g.is ∙ λ j. granted 11 (p j) (granted 13 (q j) (go (context_in s w h)))
 
-      pub forwards_not : joins (program_in s w) d e ≡ false → 11 ≡ number
-      forwards_not p = sym (ap number_of (both false (is_nil (without_all (name_at s x ∷ name_at s c ∷ []) G)) p refl))
+      pub forwards_not : false ≡ joins (program_in s w) (slot_in s w d) (slot_in s w e) → answer_of (forwards (program_in s w) (name_at s x) (name_at s c) (context_in s w h)) ≡ Err 11
+      forwards_not p = ap answer_of (forwards_by (sym p) refl)
 
-      left : (l r : Held) → Drops s h x l → Drops s l c r → without_all (name_at s x ∷ name_at s c ∷ []) G ≡ context_in s w r
+      left : (l r : Held) → Drops s h x l → Drops s l c r → without_all (name_at s x ∷ name_at s c ∷ []) (context_in s w h) ≡ context_in s w r
       unfolding without_all
       left l r a b = ap (without (name_at s c)) (dropped s w h x l a) ∙ dropped s w l c r b
 
-      pub forwards_left : joins (program_in s w) d e ≡ true → (l r : Held) → Drops s h x l → Drops s l c r → (r.count ≡ 0 → ⊥) → 13 ≡ number
-      forwards_left p l r a b z = sym (ap number_of (both true false p (ap is_nil (left l r a b) ∙ some_left s w r z)))
+      pub forwards_left : true ≡ joins (program_in s w) (slot_in s w d) (slot_in s w e) → {l r : Held} → Drops s h x l → Drops s l c r → (r.count ≡ 0 → ⊥)
+          → answer_of (forwards (program_in s w) (name_at s x) (name_at s c) (context_in s w h)) ≡ Err 13
+      forwards_left p {l} {r} a b z = ap answer_of (forwards_by (sym p) (ap is_nil (left l r a b) ∙ some_left s w r z))
 
-      pub forwards_so : joins (program_in s w) d e ≡ true → (l r : Held) → Drops s h x l → Drops s l c r → r.count ≡ 0 → 0 ≡ number
-      forwards_so p l r a b z = sym (ap number_of (both true true p (ap is_nil (left l r a b) ∙ none_left s w r z)))
+      pub forwards_so : true ≡ joins (program_in s w) (slot_in s w d) (slot_in s w e) → {l r : Held} → Drops s h x l → Drops s l c r → r.count ≡ 0
+          → answer_of (forwards (program_in s w) (name_at s x) (name_at s c) (context_in s w h)) ≡ Ok tt
+      forwards_so p {l} {r} a b z = ap answer_of (forwards_by (sym p) (ap is_nil (left l r a b) ∙ none_left s w r z))

@@ -4,7 +4,7 @@ use Rattle.std.specs.Prelude.{◌≡◌, refl, List, [], ◌∷◌, Bool, true, 
 use Rattle.std.proofs.Math.Path.{sym, ap}
 use Rattle.std.proofs.Common.{◌∙◌, subst, arith}
 use Rattle.std.proofs.Math.Bool.{false, cond}
-use Rattle.std.proofs.Math.Option.{Option, some, none}
+use Rattle.std.specs.Prelude.{Option as CodeOption, None}
 use borrow.Author.Tests.{ne_eqb}
 use Rattle.notation.specs.Bytes.{same}
 use Rattle.notation.specs.Limits.{held_limit}
@@ -28,10 +28,42 @@ use Rattle.read_tables.specs.Program.{plain_in, program_in}
 use Rattle.read_tables.specs.Whole.{EntriesIn, FirstEntry}
 use Rattle.read_tables.specs.declared.access.Labelled.{Labelled}
 use Rattle.read_tables.specs.declared.arguments.Argument.TheVariants as arguments
-use Rattle.check_contexts.specs.Held.{channels_of, HeldIn, Drops}
-use Rattle.check_contexts.specs.Walks.{Walking, walk_start, walk_on, walk_here, walk_end, Among}
+use Rattle.check_contexts.specs.Held.{channels_of, HeldIn, Sees, Drops}
+use Rattle.check_contexts.specs.Walks.{Walking, walk_start, walk_on, walk_here, walk_end, Among, at_name, at_end}
 use Rattle.check_terms.specs.Next.{context_in}
-use Rattle.check_terms.specs.Acting.{slot_in, different_sides, equal_sides}
+use Rattle.check_terms.specs.Sends.{Seen, sees_not}
+use Rattle.check_terms.specs.Acting.{different_sides, equal_sides}
+
+-- ── each name of a list passes a test, which may look at the names after it
+abbrev pub every_of : (Name → List Located → Bool) → List Located → Bool
+every_of T [] = true
+every_of T (x ∷ xs) = cond (T x.name xs) (every_of T xs) false
+
+-- P is what the code's test says of a name that stands at x, where the list goes on from an offset past it: it is the test T
+pub record Tests (s : List ℕ) (P : ℕ → ℕ → Bool → Type 0) (T : Name → List Located → Bool) : Type 0 where
+  pub is : (x past : ℕ) (b : Bool) (ys : List Located) (rest : ℕ) → P x past b → NamesFrom s past ys rest → b ≡ T (name_at s x) ys
+
+pub record EveryName (s : List ℕ) (from : ℕ) (P : ℕ → ℕ → Bool → Type 0) (r : Bool) : Type 0 where
+  pub is : (T : Name → List Located → Bool) → Tests s P T → (xs : List Located) (rest : ℕ) → NamesFrom s from xs rest → r ≡ every_of T xs
+
+module _ {s : List ℕ} {i : ℕ} {P : ℕ → ℕ → Bool → Type 0} where
+  pub every_end : {p : ℕ} → argument_from s i ≡ arguments.End p → EveryName s i P true
+  every_end {p} e = record { is = λ T t xs rest n. ap (every_of T) (sym (at_end s i p xs rest e n).0) }
+
+  module _ {x past : ℕ} (e : argument_from s i ≡ arguments.Name x past) where
+    pub every_not : P x past false → EveryName s i P false
+    every_not f = record {
+      is = λ T t xs rest n.
+          let (zs, q, o) = at_name s i x past xs rest e n in
+          rw q (ap (λ b. cond b (every_of T zs) false) (t.is x past false zs rest f o));
+    }
+
+    pub every_on : P x past true → {r : Bool} → EveryName s past P r → EveryName s i P r
+    every_on f u = record {
+      is = λ T t xs rest n.
+          let (zs, q, o) = at_name s i x past xs rest e n in
+          rw q (u.is T t zs rest o ∙ ap (λ b. cond b (every_of T zs) false) (t.is x past true zs rest f o));
+    }
 
 -- ── what the code promises of a list that goes on from an offset
 abbrev all_held : Context → List Located → Bool
@@ -58,22 +90,11 @@ pub record Without (s : List ℕ) (h : Held) (from : ℕ) (r : Held) : Type 0 wh
   pub fits : (w : List ℕ) → HeldIn s w h → HeldIn s w r
   pub many : r.count ≤ held_limit
 
--- ── held
-module _ (s : List ℕ) (h : Held) where
-  abbrev pub HeldSoFar : List Located → List Located → Type 0
-  HeldSoFar xs ys = (w : List ℕ) → all_held (context_in s w h) xs ≡ all_held (context_in s w h) ys
+-- ── by the code's test of each name
+every_held : (G : Context) (xs : List Located) → every_of (λ n ys. is_some (lookup n G)) xs ≡ all_held G xs
+every_held G [] = refl
+every_held G (x ∷ xs) = ap (λ b. cond (is_some (lookup x.name G)) b false) (every_held G xs)
 
-  module _ {from i : ℕ} (t : Walking s from i HeldSoFar) (a p : ℕ) (e : argument_from s i ≡ arguments.Name a p) where
-    pub held_on : ((w : List ℕ) → is_some (lookup (name_at s a) (context_in s w h)) ≡ true) → Walking s from p HeldSoFar
-    held_on f = walk_on t a p HeldSoFar e (λ xs ys rest o r w. r w ∙ ap (λ b. cond b (all_held (context_in s w h) ys) false) (f w))
-
-    pub held_not : ((w : List ℕ) → is_some (lookup (name_at s a) (context_in s w h)) ≡ false) → AllHeld s h from false
-    held_not f = record { is = λ w xs rest n. let (zs, o, r) = walk_here t a p e xs rest n in sym (r w ∙ ap (λ b. cond b (all_held (context_in s w h) zs) false) (f w)) }
-
-  pub held_end : {from i : ℕ} → Walking s from i HeldSoFar → (p : ℕ) → argument_from s i ≡ arguments.End p → AllHeld s h from true
-  held_end t p e = record { is = λ w xs rest n. sym ((walk_end t p e xs rest n).1 w) }
-
--- ── distinct
 pub any_is : (n : Name) (xs : List Located) → any_of (same n) (names_of xs) ≡ is_one_of n xs
 any_is n [] = refl
 any_is n (x ∷ xs) = go (same n x.name) (any_is n xs)
@@ -82,42 +103,35 @@ any_is n (x ∷ xs) = go (same n x.name) (any_is n xs)
     go true h = refl
     go false h = h
 
-module _ (s : List ℕ) where
-  abbrev pub DistinctSoFar : List Located → List Located → Type 0
-  DistinctSoFar xs ys = distinct (names_of xs) ≡ distinct (names_of ys)
+every_distinct : (xs : List Located) → every_of (λ n ys. not (is_one_of n ys)) xs ≡ distinct (names_of xs)
+unfolding distinct
+every_distinct [] = refl
+every_distinct (x ∷ xs) =
+    ap (λ b. cond (not (is_one_of x.name xs)) b false) (every_distinct xs)
+    ∙ one (is_one_of x.name xs) (distinct (names_of xs))
+    ∙ ap (λ b. cond b false (distinct (names_of xs))) (sym (any_is x.name xs))
+  where
+    one : (b d : Bool) → cond (not b) d false ≡ cond b false d
+    one true d = refl
+    one false d = refl
 
-  module _ {from i : ℕ} (t : Walking s from i DistinctSoFar) (a p : ℕ) (e : argument_from s i ≡ arguments.Name a p) (r : Bool) (f : Among s p (name_at s a) r) where
-    first_distinct : (b : Bool) → r ≡ b → (ys : List Located) (rest : ℕ) → NamesFrom s p ys rest → distinct (names_of (name_in s a ∷ ys)) ≡ cond b false (distinct (names_of ys))
-    unfolding distinct
-    first_distinct b q ys rest o = ap (λ c. cond c false (distinct (names_of ys))) (any_is (name_at s a) ys ∙ sym (f.is ys rest o) ∙ q)
+every_apart : (ys xs : List Located) → every_of (λ n zs. not (is_one_of n ys)) xs ≡ apart xs ys
+every_apart ys [] = refl
+every_apart ys (x ∷ xs) = ap (λ b. cond (not (is_one_of x.name ys)) b false) (every_apart ys xs)
 
-    pub distinct_on : r ≡ false → Walking s from p DistinctSoFar
-    distinct_on q = walk_on t a p DistinctSoFar e (λ xs ys rest o d. d ∙ first_distinct false q ys rest o)
+-- a name that is not among others
+pub not_among : (s : List ℕ) (past : ℕ) (n : Name) (b c : Bool) (ys : List Located) (rest : ℕ) → NamesFrom s past ys rest → Among s past n c → b ≡ not c → b ≡ not (is_one_of n ys)
+not_among s past n b c ys rest o a e = e ∙ ap not (a.is ys rest o)
 
-    pub distinct_not : r ≡ true → Distinct s from false
-    distinct_not q = record { is = λ xs rest n. let (zs, o, d) = walk_here t a p e xs rest n in sym (d ∙ first_distinct true q zs rest o) }
+module _ {s : List ℕ} {from : ℕ} {P : ℕ → ℕ → Bool → Type 0} {r : Bool} (u : EveryName s from P r) where
+  pub held_by_name : {h : Held} → ((w : List ℕ) → Tests s P (λ n ys. is_some (lookup n (context_in s w h)))) → AllHeld s h from r
+  held_by_name {h} t = record { is = λ w xs rest n. u.is _ (t w) xs rest n ∙ every_held (context_in s w h) xs }
 
-  pub distinct_end : {from i : ℕ} → Walking s from i DistinctSoFar → (p : ℕ) → argument_from s i ≡ arguments.End p → Distinct s from true
-  unfolding distinct
-  distinct_end t p e = record { is = λ xs rest n. sym (walk_end t p e xs rest n).1 }
+  pub distinct_by_name : Tests s P (λ n ys. not (is_one_of n ys)) → Distinct s from r
+  distinct_by_name t = record { is = λ xs rest n. u.is _ t xs rest n ∙ every_distinct xs }
 
--- ── apart
-module _ (s : List ℕ) (other : ℕ) where
-  abbrev pub ApartSoFar : List Located → List Located → Type 0
-  ApartSoFar xs zs = (ys : List Located) (rest : ℕ) → NamesFrom s other ys rest → apart xs ys ≡ apart zs ys
-
-  module _ {from i : ℕ} (t : Walking s from i ApartSoFar) (a p : ℕ) (e : argument_from s i ≡ arguments.Name a p) (r : Bool) (f : Among s other (name_at s a) r) where
-    first_apart : (b : Bool) → r ≡ b → (zs ys : List Located) (rest : ℕ) → NamesFrom s other ys rest → apart (name_in s a ∷ zs) ys ≡ cond (not b) (apart zs ys) false
-    first_apart b q zs ys rest o = ap (λ c. cond (not c) (apart zs ys) false) (sym (f.is ys rest o) ∙ q)
-
-    pub apart_on : r ≡ false → Walking s from p ApartSoFar
-    apart_on q = walk_on t a p ApartSoFar e (λ xs zs rest o d ys rest' o'. d ys rest' o' ∙ first_apart false q zs ys rest' o')
-
-    pub apart_not : r ≡ true → Apart s from other false
-    apart_not q = record { is = λ xs ys rest rest' n n'. let (zs, o, d) = walk_here t a p e xs rest n in sym (d ys rest' n' ∙ first_apart true q zs ys rest' n') }
-
-  pub apart_end : {from i : ℕ} → Walking s from i ApartSoFar → (p : ℕ) → argument_from s i ≡ arguments.End p → Apart s from other true
-  apart_end t p e = record { is = λ xs ys rest rest' n n'. sym ((walk_end t p e xs rest n).1 ys rest' n') }
+  pub apart_by_name : {other : ℕ} → ((ys : List Located) (rest : ℕ) → NamesFrom s other ys rest → Tests s P (λ n zs. not (is_one_of n ys))) → Apart s from other r
+  apart_by_name t = record { is = λ xs ys rest rest' n m. u.is _ (t ys rest' m) xs rest n ∙ every_apart ys xs }
 
 -- ── what is left
 module _ (s : List ℕ) (h : Held) where
@@ -200,19 +214,18 @@ module _ (s w : List ℕ) (h : Held) (from side first n : ℕ) where
       fit_not q = record { is = λ xs rest o. let (zs, o', r) = walk_here t.walk a p e xs rest o in sym (r ∙ first_fits false q zs) }
 
 -- one entry
-module _ (s w : List ℕ) (h : Held) (at side node : ℕ) (b : side < 2) where
-  abbrev fits? : Option Slot → Bool
-  fits? o = entry_fits (program_in s w) (side_of side) (plain_in s w node) o
+module _ {s : List ℕ} (w : List ℕ) {h : Held} {at : ℕ} (side node : ℕ) (b : side < 2) where
+  pub entry_absent : {r : CodeOption EndWords} → Sees s h at r → r ≡ None → false ≡ entry_fits (program_in s w) (side_of side) (plain_in s w node) (lookup (name_at s at) (context_in s w h))
+  entry_absent f z = sym (ap (entry_fits (program_in s w) (side_of side) (plain_in s w node)) (sees_not w f z))
 
-  module _ (e : EndWords) (f : lookup (name_at s at) (context_in s w h) ≡ some (slot_in s w e)) (l : e.side < 2) where
-    abbrev equal? : Bool
-    equal? = same_type (program_in s w).types (plain_in s w e.node) (plain_in s w node)
+  module _ {e : EndWords} (f : Seen s w h at e) where
+    pub entry_other : (e.side ≡ side → ⊥) → false ≡ entry_fits (program_in s w) (side_of side) (plain_in s w node) (lookup (name_at s at) (context_in s w h))
+    entry_other n =
+        sym (ap (entry_fits (program_in s w) (side_of side) (plain_in s w node)) f.is ∙ ap (λ x. x && same_type (program_in s w).types (plain_in s w e.node) (plain_in s w node)) (different_sides e.side side f.side b n))
 
-    pub entry_other : (e.side ≡ side → ⊥) → false ≡ fits? (lookup (name_at s at) (context_in s w h))
-    entry_other n = sym (ap fits? f ∙ ap (λ x. x && equal?) (different_sides e.side side l b n))
-
-    pub entry_so : {r : Bool} → e.side ≡ side → r ≡ equal? → r ≡ fits? (lookup (name_at s at) (context_in s w h))
-    entry_so n q = q ∙ sym (ap fits? f ∙ ap (λ x. x && equal?) (equal_sides e.side side l b n))
-
-  pub entry_absent : lookup (name_at s at) (context_in s w h) ≡ none → false ≡ fits? (lookup (name_at s at) (context_in s w h))
-  entry_absent e = sym (ap fits? e)
+    pub entry_so : {r : Bool} {i : ℕ} → e.side ≡ side → i ≡ e.node → r ≡ same_type (program_in s w).types (plain_in s w i) (plain_in s w node)
+        → r ≡ entry_fits (program_in s w) (side_of side) (plain_in s w node) (lookup (name_at s at) (context_in s w h))
+    entry_so n z q =
+        q
+        ∙ ap (λ i. same_type (program_in s w).types (plain_in s w i) (plain_in s w node)) z
+        ∙ sym (ap (entry_fits (program_in s w) (side_of side) (plain_in s w node)) f.is ∙ ap (λ x. x && same_type (program_in s w).types (plain_in s w e.node) (plain_in s w node)) (equal_sides e.side side f.side b n))

@@ -1,6 +1,9 @@
 -- What a term comes to: a refusal's number, or what is held after it.
-use Rattle.std.specs.Prelude.{ℕ, ◌≡◌, refl, List, Bool, true, false, cond, eqb}
-use Rattle.std.proofs.Common.{sym, ◌∙◌, ap, true≢false, eq-eqb}
+use Rattle.std.specs.Prelude.{ℕ, ◌≡◌, refl, List, Bool, true, false, Result, Ok, Err, IfOk, IsErrAnd}
+use Rattle.std.specs.Prelude.{Option as CodeOption, None}
+use Rattle.std.specs.Prelude.{ok_or}
+use Rattle.std.proofs.Common.{sym, ap}
+use Rattle.std.proofs.lemmas.Result.{err_from_is_err_and}
 use Rattle.std.proofs.Math.Option.{Option, some, none}
 use Rattle.calculus.specs.Program.{Context}
 use Rattle.calculus.specs.Verdict.{Verdict, demand, having}
@@ -9,7 +12,6 @@ use Rattle.calculus.specs.WellFormed.{context_of}
 use Rattle.run_words.specs.declared.records.Held.{Held}
 use Rattle.check_contexts.specs.Held.{channels_of, HeldIn}
 use Rattle.check_terms.specs.Findings.{Finding, refusal, finding}
-use Rattle.check_terms.specs.declared.next.Next.{Next}
 
 pub data Step : Type 0 where
   stop : ℕ → Step
@@ -34,24 +36,23 @@ resume at (go G) k = k G
 abbrev pub context_in : List ℕ → List ℕ → Held → Context
 context_in s w h = context_of (channels_of s w h)
 
-abbrev pub next_of : List ℕ → List ℕ → Next → Step
-next_of s w r = cond (eqb r.refusal 0) (go (context_in s w r.held)) (stop r.refusal)
+abbrev pub step_of : List ℕ → List ℕ → Result Held ℕ → Step
+step_of s w (Ok h) = go (context_in s w h)
+step_of s w (Err n) = stop n
 
-pub record Goes (s w : List ℕ) (r : Next) (t : Step) : Type 0 where
-  pub is : next_of s w r ≡ t
-  pub fits : r.refusal ≡ 0 → HeldIn s w r.held
+pub record Goes (s w : List ℕ) (r : Result Held ℕ) (t : Step) : Type 0 where
+  pub is : step_of s w r ≡ t
+  pub fits : IfOk r (HeldIn s w)
 
-abbrev pub next : ℕ → Held → Next
-next n h = record { refusal = n; held = h }
+pub stops : {s w : List ℕ} {r : Result Held ℕ} {n : ℕ} {t : Step} → r ≡ Err n → t ≡ stop n → Goes s w r t
+stops e q = rw e (record { is = sym q; fits = tt })
 
-pub stops : (s w : List ℕ) (n : ℕ) (h : Held) {t : Step} → eqb n 0 ≡ false → t ≡ stop n → Goes s w (next n h) t
-stops s w n h e q = record { is = ap (λ b. cond b (go (context_in s w h)) (stop n)) e ∙ sym q; fits = λ z. absurd (no_zero e z) }
-  where
-    no_zero : {m : ℕ} → eqb m 0 ≡ false → m ≡ 0 → ⊥
-    no_zero {m} e z = true≢false (sym (eq-eqb m 0 z) ∙ e)
+pub goes : {s w : List ℕ} (h : Held) {t : Step} → HeldIn s w h → t ≡ go (context_in s w h) → Goes s w (Ok h) t
+goes h f q = record { is = sym q; fits = f }
 
-pub goes : (s w : List ℕ) (h : Held) {t : Step} → HeldIn s w h → t ≡ go (context_in s w h) → Goes s w (next 0 h) t
-goes s w h f q = record { is = sym q; fits = λ _. f }
+-- where a `?` asks for a thing that is not there, the refusal by its number is handed on
+pub handed_on : {A B : Type 0} {o : CodeOption A} {n m : ℕ} (x : Result B ℕ) → IsErrAnd x (λ d. d ≡ m) → o ≡ None → Err m ≡ ok_or o n → x ≡ Err n
+handed_on x h z q = let (d, x_is, d_is) = err_from_is_err_and x h in cc
 
 -- ── laws
 module _ {X : Type 0} (n : ℕ) {o : Option X} (k : X → Step) where

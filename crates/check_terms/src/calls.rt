@@ -1,4 +1,4 @@
-// `call p (a, ..) [b, ..]`: its two lists of names, and the refusal's number, or 0.
+// `call p (a, ..) [b, ..]`: its two lists of names, and what the rule refuses, by its number.
 ghost use Rattle.std.specs.Prelude.{◌≡◌, List, ℕ, ◌<◌, ◌≤◌};
 ghost use Rattle.notation.specs.Token.{name_at};
 ghost use Rattle.calculus.specs.Named.{lookup};
@@ -12,37 +12,41 @@ ghost use Rattle.read_tables.specs.Program.{plain_in, program_in};
 ghost use Rattle.read_tables.specs.Roots.{TypeIn};
 ghost use Rattle.read_tables.specs.Whole.{Tables, EntriesIn};
 ghost use Rattle.check_terms.specs.Next.{context_in};
-ghost use Rattle.check_terms.specs.Endings.{number_of, calls};
-ghost use Rattle.check_terms.specs.Lists.{AllHeld, Fit, Distinct, Apart, Without};
-ghost use Rattle.check_terms.specs.Calls.{BothDistinct, BothFit, BothHeld, BothWithout, ListsRefused};
+ghost use Rattle.check_terms.specs.Endings.{answer_of, calls};
+ghost use Rattle.check_terms.specs.Lists.{EveryName, AllHeld, Fit, Distinct, Apart, Without};
+ghost use Rattle.check_terms.specs.Calls.{BothDistinct, BothFit, BothHeld, BothWithout, ListsChecked};
 
-use check_contexts::held::{Lookup, drop_end, find_end};
+use check_contexts::held::{drop_end, find_end};
 use check_contexts::names::{in_list, list_end};
 use check_types::equality::same_type;
-use notation::reading::Found;
+use notation::refusal::Refusal;
 use notation::words::wide;
 use read_tables::access::{declared_process, entry};
 use read_tables::arguments::{Argument, list_start, next_argument};
 use read_tables::search::find_process;
 use run_words::records::{Held, PROVIDED, USED};
 
+// Each name of the list that goes on from `from` passes a test, which is told where the name stands and where the list goes on after it.
+fn every_name<F: Fn(usize, usize) -> bool>(text: &[u8], from: usize, test: F) -> bool
+    requires { F.IsAlwaysCallable test }
+    ensures { EveryName text.now from (F.post test) result }
+{
+    let mut i = from;
+    while let Argument::Name(x, past) = next_argument(text, i) {
+        if !test(x, past) {
+            return false;
+        }
+        i = past;
+    }
+    true
+}
+
 // Each name of the list that goes on from `from` is held.
 fn list_held(text: &[u8], h: Held, from: usize) -> bool
     requires { h.count ≤ 16 }
     ensures { AllHeld text.now h from result }
 {
-    let mut i = from;
-    loop {
-        let a = next_argument(text, i);
-        let Argument::Name(x, past) = a else {
-            return true;
-        };
-        let f = find_end(text, h, x);
-        let Lookup::Found(e) = f else {
-            return false;
-        };
-        i = past;
-    }
+    every_name(text, from, |x, _| find_end(text, h, x).is_some())
 }
 
 // The channel with the name at `at` is of this side and type.
@@ -50,15 +54,10 @@ fn entry_fits(text: &[u8], scratch: &[u32], h: Held, at: usize, side: u32, node:
     requires { Tables text.now scratch.now × HeldIn text.now scratch.now h × (side < 2) × TypeIn text.now scratch.now node }
     ensures { result ≡ entry_fits (program_in text.now scratch.now) (side_of side) (plain_in text.now scratch.now node) (lookup (name_at text.now at) (context_in text.now scratch.now h)) }
 {
-    let f = find_end(text, h, at);
-    let Lookup::Found(e) = f else {
+    let Some(e) = find_end(text, h, at) else {
         return false;
     };
-    if e.side != side {
-        return false;
-    }
-    let i = wide(e.node);
-    same_type(text, scratch, i, node)
+    e.side == side && same_type(text, scratch, wide(e.node), node)
 }
 
 // The list fits n signature entries from the place `first` on, in number, side and type.
@@ -77,11 +76,7 @@ fn list_fits(
     let mut i = from;
     let mut k = first;
     let mut m = n;
-    loop {
-        let a = next_argument(text, i);
-        let Argument::Name(x, past) = a else {
-            return m == 0;
-        };
+    while let Argument::Name(x, past) = next_argument(text, i) {
         if m == 0 {
             return false;
         }
@@ -93,40 +88,21 @@ fn list_fits(
         k += 1;
         m -= 1;
     }
+    m == 0
 }
 
 // No name of the list comes twice.
 fn list_distinct(text: &[u8], from: usize) -> bool
     ensures { Distinct text.now from result }
 {
-    let mut i = from;
-    loop {
-        let a = next_argument(text, i);
-        let Argument::Name(x, past) = a else {
-            return true;
-        };
-        if in_list(text, past, x) {
-            return false;
-        }
-        i = past;
-    }
+    every_name(text, from, |x, past| !in_list(text, past, x))
 }
 
 // No name of the list is in the other one.
 fn lists_apart(text: &[u8], from: usize, other: usize) -> bool
     ensures { Apart text.now from other result }
 {
-    let mut i = from;
-    loop {
-        let a = next_argument(text, i);
-        let Argument::Name(x, past) = a else {
-            return true;
-        };
-        if in_list(text, other, x) {
-            return false;
-        }
-        i = past;
-    }
+    every_name(text, from, |x, _| !in_list(text, other, x))
 }
 
 // What is held beside the names of the list.
@@ -136,27 +112,18 @@ fn drop_list(text: &[u8], h: Held, from: usize) -> Held
 {
     let mut i = from;
     let mut r = h;
-    loop {
-        let a = next_argument(text, i);
-        let Argument::Name(x, past) = a else {
-            return r;
-        };
+    while let Argument::Name(x, past) = next_argument(text, i) {
         r = drop_end(text, r, x);
         i = past;
     }
+    r
 }
 
 // No name of the two lists comes twice.
 fn names_distinct(text: &[u8], a: usize, b: usize) -> bool
     ensures { BothDistinct text.now a b result }
 {
-    if !list_distinct(text, a) {
-        return false;
-    }
-    if !lists_apart(text, a, b) {
-        return false;
-    }
-    list_distinct(text, b)
+    list_distinct(text, a) && lists_apart(text, a, b) && list_distinct(text, b)
 }
 
 // The two lists fit the signature of the process whose name is the one at `q`.
@@ -164,15 +131,12 @@ fn lists_fit(text: &[u8], scratch: &[u32], h: Held, q: usize, a: usize, b: usize
     requires { Tables text.now scratch.now × HeldIn text.now scratch.now h }
     ensures { BothFit text.now scratch.now h q a b result }
 {
-    let f = find_process(text, scratch, q);
-    let Found::At(k) = f else {
+    let Some(k) = find_process(text, scratch, q) else {
         return false;
     };
     let e = declared_process(scratch, k);
-    if !list_fits(text, scratch, h, a, PROVIDED, e.first, e.provided) {
-        return false;
-    }
-    list_fits(text, scratch, h, b, USED, e.first + e.provided, e.used)
+    list_fits(text, scratch, h, a, PROVIDED, e.first, e.provided)
+        && list_fits(text, scratch, h, b, USED, e.first + e.provided, e.used)
 }
 
 // Each name of the two lists is held.
@@ -180,10 +144,7 @@ fn lists_held(text: &[u8], h: Held, a: usize, b: usize) -> bool
     requires { h.count ≤ 16 }
     ensures { BothHeld text.now h a b result }
 {
-    if !list_held(text, h, a) {
-        return false;
-    }
-    list_held(text, h, b)
+    list_held(text, h, a) && list_held(text, h, b)
 }
 
 // How many channels are held beside the names of the two lists.
@@ -196,34 +157,47 @@ fn count_left(text: &[u8], h: Held, a: usize, b: usize) -> usize
     r.count
 }
 
-// The refusal's number for a call of the process named at `q`, whose lists go on from a and b.
-fn lists_refusal(text: &[u8], scratch: &[u32], h: Held, q: usize, a: usize, b: usize) -> u32
+// A call of the process named at `q`, whose lists go on from a and b.
+fn check_lists(
+    text: &[u8],
+    scratch: &[u32],
+    h: Held,
+    q: usize,
+    a: usize,
+    b: usize,
+) -> Result<(), u32>
     requires { Tables text.now scratch.now × HeldIn text.now scratch.now h }
-    ensures { ListsRefused text.now scratch.now h q a b result }
+    ensures { ListsChecked text.now scratch.now h q a b result }
 {
     if !lists_held(text, h, a, b) {
-        return 10;
+        return Err(Refusal::NOT_HELD);
     }
     if !lists_fit(text, scratch, h, q, a, b) {
-        return 11;
+        return Err(Refusal::UNFIT);
     }
     if !names_distinct(text, a, b) {
-        return 11;
+        return Err(Refusal::UNFIT);
     }
-    if count_left(text, h, a, b) == 0 {
-        return 0;
+    if count_left(text, h, a, b) != 0 {
+        return Err(Refusal::LEFT_OVER);
     }
-    13
+    Ok(())
 }
 
 // The same, by the round bracket of the call.
-pub fn call_refusal(text: &[u8], scratch: &[u32], h: Held, q: usize, bracket: usize) -> u32
+pub fn check_call(
+    text: &[u8],
+    scratch: &[u32],
+    h: Held,
+    q: usize,
+    bracket: usize,
+) -> Result<(), u32>
     requires tables { Tables text.now scratch.now × HeldIn text.now scratch.now h }
     requires call_at { CallAt text.now bracket (arguments_at text.now bracket).0 (arguments_at text.now bracket).1 }
-    ensures { result ≡ number_of (calls (program_in text.now scratch.now) (name_at text.now q) (names_of (arguments_at text.now bracket).0) (names_of (arguments_at text.now bracket).1) (context_in text.now scratch.now h)) }
+    ensures { result ≡ answer_of (calls (program_in text.now scratch.now) (name_at text.now q) (names_of (arguments_at text.now bracket).0) (names_of (arguments_at text.now bracket).1) (context_in text.now scratch.now h)) }
 {
     let a = list_start(text, bracket);
     let m = list_end(text, a);
     let b = list_start(text, m);
-    lists_refusal(text, scratch, h, q, a, b)
+    check_lists(text, scratch, h, q, a, b)
 }

@@ -1,4 +1,4 @@
-// `fwd x c`: the refusal's number, or 0.
+// `fwd x c`: what the rule refuses, by its number.
 ghost use Rattle.std.specs.Prelude.{◌≡◌, ◌&&◌, ℕ, ◌<◌};
 ghost use Rattle.notation.specs.Token.{name_at};
 ghost use Rattle.calculus.specs.Types.{provided, used, same_side};
@@ -9,10 +9,11 @@ ghost use Rattle.read_tables.specs.Program.{program_in};
 ghost use Rattle.read_tables.specs.Whole.{Tables};
 ghost use Rattle.check_terms.specs.Acting.{slot_in};
 ghost use Rattle.check_terms.specs.Next.{context_in};
-ghost use Rattle.check_terms.specs.Endings.{number_of, forwards, joins};
+ghost use Rattle.check_terms.specs.Endings.{answer_of, forwards, joins};
 
-use check_contexts::held::{Lookup, drop_end, find_end};
+use check_contexts::held::{drop_end, find_end};
 use check_types::equality::same_type;
+use notation::refusal::Refusal;
 use notation::words::wide;
 use run_words::records::{End, Held, PROVIDED, USED};
 
@@ -21,36 +22,25 @@ fn may_join(text: &[u8], scratch: &[u32], x: End, c: End) -> bool
     requires { Tables text.now scratch.now × EndIn text.now scratch.now (end_in x) × EndIn text.now scratch.now (end_in c) × (x.side < 2) × (c.side < 2) }
     ensures { result ≡ joins (program_in text.now scratch.now) (slot_in text.now scratch.now x) (slot_in text.now scratch.now c) }
 {
-    if x.side != PROVIDED {
+    if x.side != PROVIDED || c.side != USED {
         return false;
     }
-    if c.side != USED {
-        return false;
-    }
-    let i = wide(c.node);
-    let j = wide(x.node);
-    same_type(text, scratch, i, j)
+    same_type(text, scratch, wide(c.node), wide(x.node))
 }
 
-pub fn forward_refusal(text: &[u8], scratch: &[u32], h: Held, x: usize, c: usize) -> u32
+pub fn check_forward(text: &[u8], scratch: &[u32], h: Held, x: usize, c: usize) -> Result<(), u32>
     requires { Tables text.now scratch.now × HeldIn text.now scratch.now h }
-    ensures { result ≡ number_of (forwards (program_in text.now scratch.now) (name_at text.now x) (name_at text.now c) (context_in text.now scratch.now h)) }
+    ensures { result ≡ answer_of (forwards (program_in text.now scratch.now) (name_at text.now x) (name_at text.now c) (context_in text.now scratch.now h)) }
 {
-    let f = find_end(text, h, x);
-    let Lookup::Found(e) = f else {
-        return 10;
-    };
-    let g = find_end(text, h, c);
-    let Lookup::Found(d) = g else {
-        return 10;
-    };
+    let e = find_end(text, h, x).ok_or(Refusal::NOT_HELD)?;
+    let d = find_end(text, h, c).ok_or(Refusal::NOT_HELD)?;
     if !may_join(text, scratch, e, d) {
-        return 11;
+        return Err(Refusal::UNFIT);
     }
     let l = drop_end(text, h, x);
     let r = drop_end(text, l, c);
-    if r.count == 0 {
-        return 0;
+    if r.count != 0 {
+        return Err(Refusal::LEFT_OVER);
     }
-    13
+    Ok(())
 }

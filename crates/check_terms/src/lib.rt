@@ -3,5 +3,4 @@
 pub mod acting;
 pub mod calls;
 pub mod forwards;
-pub mod next;
 pub mod sends;

@@ -1,4 +1,8 @@
 -- The check of each process of a script: what its signature has it hold, and its 17th name.
+use Rattle.std.specs.Prelude.{Err, IsErrAnd}
+use Rattle.std.proofs.lemmas.Result.{err_from_is_err_and}
+use Rattle.notation.specs.Refusals.{OrRefusal}
+use Rattle.notation.specs.declared.refusal.Refusal.{Refusal}
 use Prim.Native.Nat.{ℕ, zero, suc, ◌+◌, ◌-◌, ◌<◌, ◌≤◌}
 use Rattle.std.specs.Prelude.{◌≡◌, List, [], ◌∷◌, ◌++◌, Bool, true, false, ltb}
 use Rattle.std.proofs.Math.Path.{refl, ap}
@@ -13,7 +17,7 @@ use Rattle.calculus.specs.Types.{Side, provided, used}
 use Rattle.calculus.specs.Program.{slot, Context, Program, on_side, entries}
 use Rattle.calculus.specs.Declarations.{channels}
 use Rattle.calculus.specs.Checking.{check, unless_named, check_declaration, check_declarations, typed}
-use Rattle.calculus.specs.Verdict.{fine, refused, and_then}
+use Rattle.calculus.specs.Verdict.{verdict_of, fine, refused, and_then}
 use Rattle.calculus.specs.Verdict as calculus
 use Rattle.calculus.specs.WellFormed.{context_of}
 use Rattle.theory_ends.specs.Contexts.{context_append}
@@ -194,8 +198,11 @@ module _ (s w : List ℕ) where
   pub checking_on : (n i : ℕ) → Checking n i → i < n → check_declaration (program_in s w) (proc_declaration s w i) ≡ fine → (j : ℕ) → j ≡ i + 1 → Checking n j
   checking_on n i t l e j z = rw z (record { upto = omega arith; rest = checking_here n i t l ∙ ap (λ v. and_then v (from (i + 1) (n - (i + 1)))) e })
 
-  pub checking_stops : (n i : ℕ) → Checking n i → i < n → (m o : ℕ) → check_declaration (program_in s w) (proc_declaration s w i) ≡ refused m o → refused m o ≡ typed (script_in s w)
-  checking_stops n i t l m o e = sym (checking_here n i t l ∙ ap (λ v. and_then v (from (i + 1) (n - (i + 1)))) e)
+  -- a refusal, which a `?` hands on
+  pub checking_stops : (n i : ℕ) → Checking n i → i < n → {e : Refusal} (x : OrRefusal (Unit {0})) → IsErrAnd x (λ d. d ≡ e) → check_declaration (program_in s w) (proc_declaration s w i) ≡ verdict_of (Err e) → verdict_of x ≡ typed (script_in s w)
+  checking_stops n i t l x h q =
+      let (d, x_is, d_is) = err_from_is_err_and x h in
+      rw (x_is, d_is) (sym (checking_here n i t l ∙ ap (λ v. and_then v (from (i + 1) (n - (i + 1)))) q))
 
   pub checking_end : (n i : ℕ) → Checking n i → n ≤ i → fine ≡ typed (script_in s w)
   checking_end n i t l = let y : n - i ≡ 0 = omega (arith, t.upto) in sym (t.rest ∙ ap (from i) y)

@@ -10,7 +10,8 @@ use Rattle.calculus.specs.Demands.{Derivation, Derivable}
 use Rattle.calculus.specs.Verdict.{fine}
 use Rattle.calculus.specs.Verdict as calculus
 use Rattle.theory_derivations.specs.Accepts.{accepts}
-use Rattle.calculus.specs.declared.verdict.Verdict.TheVariants as verdict
+use Rattle.std.specs.Prelude.{Ok}
+use Rattle.notation.specs.Refusals.{refuses}
 use Rattle.check_text.specs.Texts.{verdict_in, TextChecked}
 
 abbrev IsFine : calculus.Verdict → Type 0
@@ -26,13 +27,13 @@ fine_accepted (accepted ds) e = (ds, refl)
 fine_accepted (faulty n i) e = absurd (subst IsFine e tt)
 
 -- a text that `check` does not refuse has a derivation
-pub accepted_derivable : (s w v : List ℕ) → TextChecked s w verdict.Fine v → scratch_words ≤ length w → (ds : List Declaration) × Derivable s ds
+pub accepted_derivable : (s w v : List ℕ) → TextChecked s w (Ok tt) v → scratch_words ≤ length w → (ds : List Declaration) × Derivable s ds
 accepted_derivable s w v t h =
     let (ds, e) = fine_accepted (checked s) (t.enough h).0 in
     (ds, (accepts s ds).0 e)
 
 -- one that it refuses, though its notation and declarations are in order, has none
-pub refused_underivable : (s w v : List ℕ) (n i : ℕ) → TextChecked s w (verdict.Refused n i) v → scratch_words ≤ length w
+pub refused_underivable : (s w v : List ℕ) (n i : ℕ) → TextChecked s w (refuses n i) v → scratch_words ≤ length w
     → (ds : List Declaration) → Derives s ds → InOrder ds → Derivation ds → ⊥
 refused_underivable s w v n i t h ds r o D =
     let e = (accepts s ds).1 (record { script = r; declarations = o; derivation = D }) in

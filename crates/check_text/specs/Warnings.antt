@@ -12,7 +12,7 @@ use Rattle.calculus.specs.Checking.{check, check_declaration, typed}
 use Rattle.calculus.specs.Declarations.{gather}
 use Rattle.calculus.specs.Verdict.{fine}
 use Rattle.calculus.specs.Warnings.{Missing, missing, Warning, warning_in, own_warnings, warnings, TellsOf}
-use Rattle.calculus.specs.declared.answers.Warned.TheVariants as warned
+use Rattle.std.specs.Prelude.{Some, None}
 use Rattle.theory_derivations.specs.Fine.{refuted, then_law}
 use Rattle.run_words.specs.declared.records.Held.{Held}
 use Rattle.read_tables.specs.Access.{SignatureOf, as_entry, entry_of}
@@ -23,8 +23,9 @@ use Rattle.check_types.specs.Sought.{Sought, SoughtOn, sought_map, mapped, sough
 use Rattle.check_terms.specs.Next.{context_in}
 use Rattle.check_declarations.specs.Sorted.{gather_append}
 use Rattle.check_processes.specs.Missing.{missing_in}
-use Rattle.check_processes.specs.declared.missing.Search.{Search}
-use Rattle.check_processes.specs.declared.missing.Search.TheVariants.{At, Past}
+use Rattle.std.specs.declared.ops.ControlFlow.{ControlFlow}
+use Rattle.std.specs.declared.ops.ControlFlow.TheVariants.{Continue, Break}
+use Rattle.check_processes.specs.declared.missing.Unmet.{Unmet}
 use Rattle.check_text.specs.Bodies.{SignatureHeld, body_named, body_checked, Checking, checking_start, checking_here, checking_on}
 
 module _ (s w : List ℕ) where
@@ -70,10 +71,10 @@ module _ (s w : List ℕ) where
         rest = subst (λ l. SoughtOn (warnings (script_in s w)) k l k) (processes_only ∙ ap (warnings_from 0) y) (sought_start (warnings (script_in s w)) k);
       }
 
-  pub seek_end : (n k₀ i k : ℕ) → Seeking n k₀ i k → n ≤ i → TellsOf s (get_elem? (warnings (script_in s w)) k₀) warned.Nothing
+  pub seek_end : (n k₀ i k : ℕ) → Seeking n k₀ i k → n ≤ i → TellsOf s (get_elem? (warnings (script_in s w)) k₀) None
   seek_end n k₀ i k t l =
       let y : n - i ≡ 0 = omega (arith, t.checks.upto) in
-      subst (λ o. TellsOf s o warned.Nothing) (sym (sought_past (sought_end t.rest (ap (warnings_from i) y)))) refl
+      subst (λ o. TellsOf s o None) (sym (sought_past (sought_end t.rest (ap (warnings_from i) y)))) refl
 
   -- the process i
   module _ (n k₀ i k : ℕ) (t : Seeking n k₀ i k) (l : i < n) (d : Declared) (g : SignatureOf w i d) where
@@ -113,18 +114,19 @@ module _ (s w : List ℕ) where
           let x : i + 1 ≡ j = sym z in
           ap (warnings_from i) y ∙ λ q. own_is q ++ warnings_from (x q) (n - j)
 
-      module _ (x : Search) (a : Sought lacks k (missing_in s x)) where
-        own : (y : Search) → x ≡ y → Sought (map as_warning lacks) k (mapped as_warning (missing_in s y))
+      module _ (x : ControlFlow Unmet ℕ) (a : Sought lacks k (missing_in s x)) where
+        own : (y : ControlFlow Unmet ℕ) → x ≡ y → Sought (map as_warning lacks) k (mapped as_warning (missing_in s y))
         own y e = sought_map as_warning lacks k (missing_in s y) (subst (λ v. Sought lacks k (missing_in s v)) e a)
 
-        pub seek_found : (c label : ℕ) → x ≡ At c label → TellsOf s (get_elem? (warnings (script_in s w)) k₀) (warned.Missing d.at c label)
-        seek_found c label e =
-            let found = sought_first t.rest (map as_warning lacks) (warnings_from (i + 1) (n - (i + 1))) (begins (i + 1) refl) (own (At c label) e) refl in
-            subst (λ o. TellsOf s o (warned.Missing d.at c label)) (sym found.is) (label, refl, refl)
+        pub seek_found : (u : Unmet) → x ≡ Break u
+            → TellsOf s (get_elem? (warnings (script_in s w)) k₀) (Some (record { process = d.at; channel = u.channel; label = u.label }))
+        seek_found u e =
+            let found = sought_first t.rest (map as_warning lacks) (warnings_from (i + 1) (n - (i + 1))) (begins (i + 1) refl) (own (Break u) e) refl in
+            subst (λ o. TellsOf s o (Some (record { process = d.at; channel = u.channel; label = u.label }))) (sym found.is) (u.label, refl, refl)
 
-        pub seek_on : (v : ℕ) → x ≡ Past v → (j : ℕ) → j ≡ i + 1 → Seeking n k₀ j v
+        pub seek_on : (v : ℕ) → x ≡ Continue v → (j : ℕ) → j ≡ i + 1 → Seeking n k₀ j v
         seek_on v e j z = record {
           checks = checking_on s w n i t.checks l own_fine j z;
           fine = t.fine;
-          rest = sought_on t.rest (map as_warning lacks) (warnings_from j (n - j)) (begins j z) (own (Past v) e) refl;
+          rest = sought_on t.rest (map as_warning lacks) (warnings_from j (n - j)) (begins j z) (own (Continue v) e) refl;
         }

@@ -11,10 +11,10 @@ ghost use Rattle.read_tables.specs.Program.{program_in};
 ghost use Rattle.read_tables.specs.Whole.{Tables, SignatureIn};
 ghost use Rattle.check_text.specs.Bodies.{SignatureHeld};
 
-use calculus::verdict::Verdict;
 use check_contexts::signatures::with_entries;
 use check_declarations::verdict::declared_verdict;
 use check_processes::process::check_process;
+use notation::refusal::Refusal;
 use notation::script::Script;
 use read_tables::access::{Declared, declared_process, entry, process_count};
 use run_words::held::no_ends;
@@ -31,14 +31,17 @@ pub(crate) fn signature_held(text: &[u8], scratch: &[u32], e: Declared) -> Held
 }
 
 // The check of the process i of the script.
-fn check_body(text: &[u8], scratch: &[u32], i: usize) -> Verdict
+fn check_body(text: &[u8], scratch: &[u32], i: usize) -> Result<(), Refusal>
     requires { Tables text.now scratch.now × (i < (tally_in scratch.now).processes) }
     ensures { verdict_of result ≡ check_declaration (program_in text.now scratch.now) (proc_declaration text.now scratch.now i) }
 {
     let e = declared_process(scratch, i);
     if has_seventeenth(e) {
         let t = entry(scratch, e.first + Script::HELD);
-        return Verdict::Refused(15, t.at);
+        return Err(Refusal {
+            number: Refusal::NO_ROOM,
+            at: t.at,
+        });
     }
     let h = signature_held(text, scratch, e);
     check_process(text, scratch, h, e.body)
@@ -48,37 +51,26 @@ fn check_body(text: &[u8], scratch: &[u32], i: usize) -> Verdict
 fn has_seventeenth(e: Declared) -> bool
     ensures { result ≡ ltb held_limit (e.provided + e.used) }
 {
-    if Script::HELD < e.provided {
-        return true;
-    }
-    Script::HELD - e.provided < e.used
+    Script::HELD < e.provided || Script::HELD - e.provided < e.used
 }
 
 // The check of each process, in text order.
-fn check_bodies(text: &[u8], scratch: &[u32]) -> Verdict
+fn check_bodies(text: &[u8], scratch: &[u32]) -> Result<(), Refusal>
     requires { Tables text.now scratch.now }
     ensures { verdict_of result ≡ typed (script_in text.now scratch.now) }
 {
     let n = process_count(scratch);
-    let mut i: usize = 0;
-    while i < n {
-        let v = check_body(text, scratch, i);
-        let Verdict::Fine = v else {
-            return v;
-        };
-        i += 1;
+    for i in 0..n {
+        check_body(text, scratch, i)?;
     }
-    Verdict::Fine
+    Ok(())
 }
 
 // Refusals 6 to 15 of the script in the tables.
-pub(crate) fn script_verdict(text: &[u8], scratch: &[u32]) -> Verdict
+pub(crate) fn script_verdict(text: &[u8], scratch: &[u32]) -> Result<(), Refusal>
     requires { Tables text.now scratch.now }
     ensures { verdict_of result ≡ and_then (declared (script_in text.now scratch.now)) (typed (script_in text.now scratch.now)) }
 {
-    let v = declared_verdict(text, scratch);
-    let Verdict::Fine = v else {
-        return v;
-    };
+    declared_verdict(text, scratch)?;
     check_bodies(text, scratch)
 }

@@ -8,31 +8,31 @@ ghost use Rattle.read_tables.specs.Decode.{script_in};
 ghost use Rattle.read_tables.specs.Whole.{Tables};
 
 use crate::bodies::signature_held;
-use calculus::answers::Warned;
-use check_processes::missing::{Search, missing_label};
+use calculus::answers::Missing;
+use check_processes::missing::missing_label;
 use read_tables::access::{declared_process, process_count};
+use std::ops::ControlFlow;
 
 // The warning k of the script in the tables, in which nothing is at fault.
-pub fn warning(text: &[u8], scratch: &[u32], k: usize) -> Warned
+pub fn warning(text: &[u8], scratch: &[u32], k: usize) -> Option<Missing>
     requires { Tables text.now scratch.now × (typed (script_in text.now scratch.now) ≡ fine) }
     ensures { TellsOf text.now (get_elem? (warnings (script_in text.now scratch.now)) k) result }
 {
     let n = process_count(scratch);
-    let mut i: usize = 0;
     let mut left = k;
-    while i < n {
+    for i in 0..n {
         let e = declared_process(scratch, i);
         let h = signature_held(text, scratch, e);
-        let s = missing_label(text, scratch, h, e.body, left);
-        match s {
-            Search::At(c, label) => {
-                return Warned::Missing(e.at, c, label);
+        match missing_label(text, scratch, h, e.body, left) {
+            ControlFlow::Break(unmet) => {
+                return Some(Missing {
+                    process: e.at,
+                    channel: unmet.channel,
+                    label: unmet.label,
+                });
             }
-            Search::Past(j) => {
-                left = j;
-            }
+            ControlFlow::Continue(more) => left = more,
         }
-        i += 1;
     }
-    Warned::Nothing
+    None
 }

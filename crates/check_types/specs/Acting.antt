@@ -1,12 +1,11 @@
 -- What the type at a node lets a process do, in node numbers.
 use Rattle.std.specs.Prelude.{ℕ, ◌<◌, ◌≤◌, ◌≡◌, refl, List, Bool, true, false, cond, eqb}
+use Rattle.std.specs.Prelude.{Option as CodeOption, Some, None}
 use Rattle.std.proofs.Common.{sym, ◌∙◌, ap, arith}
 use Rattle.std.proofs.Math.Option.{Option, some, none, map, get_or}
 use Rattle.notation.specs.Token.{name_at}
 use Rattle.notation.specs.Tree.{Name, Ty, plains}
 use Rattle.notation.specs.declared.reading.TypeNode.{TypeNode}
-use Rattle.notation.specs.declared.reading.Found.{Found}
-use Rattle.notation.specs.declared.reading.Found.TheVariants.{At, Nothing}
 use Rattle.calculus.specs.Named.{lookup}
 use Rattle.calculus.specs.Types.{Shape, leaf, word, pair, choice, shape, unfolded, passing, choosing}
 use Rattle.calculus.specs.Types as calculus
@@ -19,11 +18,7 @@ use Rattle.read_tables.specs.Roots.{TypeIn, AlternativesIn, alternatives_in}
 use Rattle.read_tables.specs.Search.{place_of, Sought}
 use Rattle.read_tables.specs.Whole.{Tables}
 use Rattle.check_types.specs.declared.messages.Passing.{Passing}
-use Rattle.check_types.specs.declared.messages.Passing.TheVariants.{Passes}
-use Rattle.check_types.specs.declared.messages.Passing.TheVariants as NoPassing
 use Rattle.check_types.specs.declared.messages.Choosing.{Choosing}
-use Rattle.check_types.specs.declared.messages.Choosing.TheVariants.{Chooses}
-use Rattle.check_types.specs.declared.messages.Choosing.TheVariants as NoChoosing
 use Rattle.check_types.specs.Numbers.{declared_or, number_for, number_itself, number_named}
 use Rattle.check_types.specs.Shapes.{by_marks, ShapeIn, is_leaf, is_word, is_pair, is_choice_lem, shape_in, word_in, pair_in, choice_in}
 
@@ -34,37 +29,44 @@ pub record StandsFor (s w : List ℕ) (i r : ℕ) : Type 0 where
   pub type : TypeIn s w r
   pub number : r ≡ number_for s w i
 
+-- the code's answers by their numbers: what passes, what is chosen from
+abbrev pub passing_words : ℕ → ℕ → ℕ → ℕ → CodeOption Passing
+passing_words sender side what after = Some (record { sender = sender; side = side; what = what; after = after })
+
+abbrev pub choosing_words : ℕ → ℕ → ℕ → CodeOption Choosing
+choosing_words sender place count = Some (record { sender = sender; place = place; count = count })
+
 -- the code's answers, in the calculus' terms; the parts of what is passed are types
-abbrev pub passing_of : List ℕ → List ℕ → Passing → Option calculus.Passing
-passing_of s w NoPassing.Nothing = none
-passing_of s w (Passes a b x y) = some (record { sender = side_of a; side = side_of b; what = plain_in s w x; after = plain_in s w y })
+abbrev pub passing_of : List ℕ → List ℕ → CodeOption Passing → Option calculus.Passing
+passing_of s w None = none
+passing_of s w (Some p) = some (record { sender = side_of p.sender; side = side_of p.side; what = plain_in s w p.what; after = plain_in s w p.after })
 
-abbrev pub passed_in : List ℕ → List ℕ → Passing → Type 0
-passed_in s w NoPassing.Nothing = Unit
-passed_in s w (Passes a b x y) = TypeIn s w x × TypeIn s w y × (a < 2) × (b < 2)
+abbrev pub passed_in : List ℕ → List ℕ → CodeOption Passing → Type 0
+passed_in s w None = Unit
+passed_in s w (Some p) = TypeIn s w p.what × TypeIn s w p.after × (p.sender < 2) × (p.side < 2)
 
-pub record PassingIn (s w : List ℕ) (i : ℕ) (r : Passing) : Type 0 where
+pub record PassingIn (s w : List ℕ) (i : ℕ) (r : CodeOption Passing) : Type 0 where
   pub is : passing (plain_in s w i) ≡ passing_of s w r
   pub parts : passed_in s w r
 
 -- r is what the type i passes, whatever text the tables are of
-pub record PassingOf (w : List ℕ) (i : ℕ) (r : Passing) : Type 0 where
+pub record PassingOf (w : List ℕ) (i : ℕ) (r : CodeOption Passing) : Type 0 where
   pub says : (s : List ℕ) → Tables s w → TypeIn s w i → PassingIn s w i r
 
-abbrev pub choosing_of : List ℕ → List ℕ → Choosing → Option calculus.Choosing
-choosing_of s w NoChoosing.Nothing = none
-choosing_of s w (Chooses a e n) = some (record { sender = side_of a; labels = plains (alternatives_in s w e n) })
+abbrev pub choosing_of : List ℕ → List ℕ → CodeOption Choosing → Option calculus.Choosing
+choosing_of s w None = none
+choosing_of s w (Some c) = some (record { sender = side_of c.sender; labels = plains (alternatives_in s w c.place c.count) })
 
-abbrev pub chosen_in : List ℕ → List ℕ → Choosing → Type 0
-chosen_in s w NoChoosing.Nothing = Unit
-chosen_in s w (Chooses a e n) = (a < 2) × AlternativesIn s w e n
+abbrev pub chosen_in : List ℕ → List ℕ → CodeOption Choosing → Type 0
+chosen_in s w None = Unit
+chosen_in s w (Some c) = (c.sender < 2) × AlternativesIn s w c.place c.count
 
-pub record ChoosingIn (s w : List ℕ) (i : ℕ) (r : Choosing) : Type 0 where
+pub record ChoosingIn (s w : List ℕ) (i : ℕ) (r : CodeOption Choosing) : Type 0 where
   pub is : choosing (plain_in s w i) ≡ choosing_of s w r
   pub parts : chosen_in s w r
 
 -- r is what the type i lets a process choose, whatever text the tables are of
-pub record ChoosingOf (w : List ℕ) (i : ℕ) (r : Choosing) : Type 0 where
+pub record ChoosingOf (w : List ℕ) (i : ℕ) (r : CodeOption Choosing) : Type 0 where
   pub says : (s : List ℕ) → Tables s w → TypeIn s w i → ChoosingIn s w i r
 
 -- ── the calculus' definitions go by the shape alone
@@ -142,30 +144,30 @@ module _ (w : List ℕ) (i : ℕ) (n : TypeNode) (o : NodeOf w i n) where
           number = number_itself s w i n o.holds z;
         }
 
-    module _ (k : n.kind ≡ 1) {r : Found} (f : Sought (name_at s n.second) types (named_type s w) (tally_in w).types r) where
-      by_name : (q : Found) → r ≡ q → unfolded types (plain_in s w i) ≡ get_or (map (λ j. (named_type s w j).1) (place_of q)) (plain_in s w i)
+    module _ (k : n.kind ≡ 1) {r : CodeOption ℕ} (f : Sought (name_at s n.second) types (named_type s w) (tally_in w).types r) where
+      by_name : (q : CodeOption ℕ) → r ≡ q → unfolded types (plain_in s w i) ≡ get_or (map (λ j. (named_type s w j).1) (place_of q)) (plain_in s w i)
       by_name q e =
           let A = plain_in s w i in
           unfolded_by_shape types A
           ∙ ap (unfolded_by types A) (word_in (shape_in s w i n o t a) k)
           ∙ ap (λ (d : Option (Ty Name)). get_or d A) f.is
-          ∙ ap (λ (p : Found). get_or (map (λ j. (named_type s w j).1) (place_of p)) A) e
+          ∙ ap (λ (p : CodeOption ℕ). get_or (map (λ j. (named_type s w j).1) (place_of p)) A) e
 
-      by_number : (q : Found) → r ≡ q → declared_or w i q ≡ number_for s w i
+      by_number : (q : CodeOption ℕ) → r ≡ q → declared_or w i q ≡ number_for s w i
       by_number q e = number_named s w i n o.holds k q (sym e ∙ f.first)
 
-      pub stands_declared : (j : ℕ) (d : Labelled) → r ≡ At j → TypeOf w j d → StandsFor s w i d.number
+      pub stands_declared : (j : ℕ) (d : Labelled) → r ≡ Some j → TypeOf w j d → StandsFor s w i d.number
       stands_declared j d e b =
           record {
-            is = sym (by_name (At j) e ∙ ap (λ (p : Name × Ty Name). p.1) (b.is s));
+            is = sym (by_name (Some j) e ∙ ap (λ (p : Name × Ty Name). p.1) (b.is s));
             type = b.stands s t (f.below j e);
-            number = b.holds.number ∙ by_number (At j) e;
+            number = b.holds.number ∙ by_number (Some j) e;
           }
 
-      pub stands_undeclared : r ≡ Nothing → StandsFor s w i i
-      stands_undeclared e = record { is = sym (by_name Nothing e); type = a; number = by_number Nothing e }
+      pub stands_undeclared : r ≡ None → StandsFor s w i i
+      stands_undeclared e = record { is = sym (by_name None e); type = a; number = by_number None e }
 
-  pub passes_at : (kind : ℕ) → n.kind ≡ kind → 2 ≤ kind → kind ≤ 4 → PassingOf w i (Passes (bit 2 kind) (bit 3 kind) n.first n.second)
+  pub passes_at : (kind : ℕ) → n.kind ≡ kind → 2 ≤ kind → kind ≤ 4 → PassingOf w i (passing_words (bit 2 kind) (bit 3 kind) n.first n.second)
   passes_at kind e l h =
       record {
         says = λ s t a.
@@ -176,11 +178,11 @@ module _ (w : List ℕ) (i : ℕ) (n : TypeNode) (o : NodeOf w i n) where
             };
       }
 
-  pub passes_nothing : (n.kind ≡ 2 → ⊥) → (n.kind ≡ 3 → ⊥) → (n.kind ≡ 4 → ⊥) → PassingOf w i NoPassing.Nothing
+  pub passes_nothing : (n.kind ≡ 2 → ⊥) → (n.kind ≡ 3 → ⊥) → (n.kind ≡ 4 → ⊥) → PassingOf w i None
   passes_nothing x y z =
       record { says = λ s t a. record { is = passing_by_shape (plain_in s w i) ∙ not_pair (shape_in s w i n o t a) x y z; parts = tt } }
 
-  pub chooses_at : (kind : ℕ) → n.kind ≡ kind → 5 ≤ kind → ChoosingOf w i (Chooses (bit 5 kind) n.first n.second)
+  pub chooses_at : (kind : ℕ) → n.kind ≡ kind → 5 ≤ kind → ChoosingOf w i (choosing_words (bit 5 kind) n.first n.second)
   chooses_at kind e l =
       record {
         says = λ s t a.
@@ -191,6 +193,6 @@ module _ (w : List ℕ) (i : ℕ) (n : TypeNode) (o : NodeOf w i n) where
             };
       }
 
-  pub chooses_nothing : (n.kind ≡ 5 → ⊥) → (n.kind ≡ 6 → ⊥) → ChoosingOf w i NoChoosing.Nothing
+  pub chooses_nothing : (n.kind ≡ 5 → ⊥) → (n.kind ≡ 6 → ⊥) → ChoosingOf w i None
   chooses_nothing x y =
       record { says = λ s t a. record { is = choosing_by_shape (plain_in s w i) ∙ not_choice (shape_in s w i n o t a) x y; parts = tt } }

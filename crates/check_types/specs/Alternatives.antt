@@ -58,3 +58,14 @@ module _ (s w : List ℕ) (d m : ℕ) (b : BranchesIn s w d m) (h : m ≡ 0 → 
   first_branch_in r o =
       let f : FirstBranch s w d (m - 1) r.at r.number = o.says s (m - 1) branches_there_lem in
       record { process = f.process; rest = f.rest; is = ap (branches_in s w d) more_branches_lem ∙ f.is }
+
+-- ── a walk by numbers: of n places before the place e, those from the number k on are left
+module _ (P : ℕ → ℕ → Type 0) (e n : ℕ) where
+  left_at : {d m : ℕ} (c l : ℕ) → d ≡ c → m ≡ l → P d m → P c l
+  left_at {d} c l x y p = subst (λ i. P i l) x (subst (P d) y p)
+
+  pub all_left : P e n → P (e - 0) (n - 0)
+  all_left = left_at (e - 0) (n - 0) (omega arith) (omega arith)
+
+  pub one_less : (k : ℕ) → P (e - k - 1) (n - k - 1) → P (e - (k + 1)) (n - (k + 1))
+  one_less k = left_at (e - (k + 1)) (n - (k + 1)) (omega arith) (omega arith)

@@ -1,62 +1,47 @@
 -- A label found in a list of branches.
-use Rattle.std.specs.Prelude.{ℕ, ◌+◌, ◌-◌, ◌≤◌, ◌≡◌, refl, List, Bool, true, false, cond}
-use Rattle.std.proofs.Common.{sym, ◌∙◌, ap, subst}
-use Rattle.std.proofs.Math.Option.{Option, some, map}
+use Rattle.std.specs.Prelude.{ℕ, zero, suc, ◌+◌, ◌-◌, ◌≤◌, ◌≡◌, refl, List, Bool, true, false, cond}
+use Rattle.std.specs.Prelude.{Option as CodeOption, Some, None}
+use Rattle.std.proofs.Common.{subst, arith}
+use Rattle.std.proofs.Math.Option.{some, map}
 use Rattle.notation.specs.Bytes.{same}
 use Rattle.notation.specs.Token.{name_at}
-use Rattle.notation.specs.Tables.{Area, branch_room}
-use Rattle.notation.specs.Tree.{Proc}
-use Rattle.notation.specs.declared.reading.Found.{Found}
-use Rattle.notation.specs.declared.reading.Found.TheVariants.{At, Nothing}
+use Rattle.notation.specs.Tree.{Name}
 use Rattle.calculus.specs.Steps.{branch_of}
-use Rattle.read_tables.specs.declared.access.Labelled.{Labelled}
-use Rattle.read_tables.specs.Access.{BranchOf}
-use Rattle.read_tables.specs.Decode.{process_in}
-use Rattle.read_tables.specs.Roots.{BranchesIn, ProcessIn, branches_in}
+use Rattle.read_tables.specs.Decode.{branch_at, process_in}
+use Rattle.read_tables.specs.Roots.{BranchesIn, ProcessIn, branches_in, first_branch}
 use Rattle.read_tables.specs.Search.{place_of}
-use Rattle.read_tables.specs.Whole.{Tables}
-use Rattle.check_types.specs.Alternatives.{BeginsBranch, first_branch_there, first_branch_in}
+use Rattle.check_types.specs.Labels.{first_labelled}
 
 -- the label at `at`, among the n branches before the place e: its process is at r
-pub record BranchIs (s w : List ℕ) (at e n : ℕ) (r : Found) : Type 0 where
+pub record BranchIs (s w : List ℕ) (at e n : ℕ) (r : CodeOption ℕ) : Type 0 where
   pub is : branch_of (name_at s (at + 1)) (branches_in s w e n) ≡ map (λ x. process_in s w x) (place_of r)
-  pub process : (x : ℕ) → r ≡ At x → ProcessIn s w x
+  pub process : (x : ℕ) → r ≡ Some x → ProcessIn s w x
 
 -- where r leads, a process stands
-abbrev process_there : List ℕ → List ℕ → Found → Type 0
-process_there s w (At x) = ProcessIn s w x
-process_there s w Nothing = Unit
+abbrev process_there : List ℕ → List ℕ → CodeOption ℕ → Type 0
+process_there s w (Some x) = ProcessIn s w x
+process_there s w None = Unit
 
--- ── a search that has come to n branches before the place e
-module _ (s w : List ℕ) (at e₀ n₀ : ℕ) where
-  abbrev reached : ℕ → ℕ → Option Proc
-  reached e n = branch_of (name_at s (at + 1)) (branches_in s w e n)
+module _ (s w : List ℕ) where
+  pub branches_below : (e n : ℕ) → BranchesIn s w e n → n ≤ e
+  branches_below e zero a = omega arith
+  branches_below e (suc n) a = let f = first_branch s w e n a in omega (arith, f.past, branches_below (e - 1) n f.rest)
 
-  pub record Searching (e n : ℕ) : Type 0 where
-    pub there : BranchesIn s w e n
-    pub rest : reached e₀ n₀ ≡ reached e n
+  module _ (at : ℕ) where
+    abbrev name : Name
+    name = name_at s (at + 1)
 
-  pub search_start : BranchesIn s w e₀ n₀ → Searching e₀ n₀
-  search_start b = record { there = b; rest = refl }
+    -- the first of them: found, or passed over
+    module _ (e n i : ℕ) (t : ProcessIn s w i) {r : CodeOption ℕ} (l : BranchIs s w at (e - 1) n r) where
+      leads_first : (b : Bool) → (cond b (some (process_in s w i)) (branch_of name (branches_in s w (e - 1) n)) ≡ map (λ x. process_in s w x) (place_of (cond b (Some i) r))) × ((x : ℕ) → cond b (Some i) r ≡ Some x → ProcessIn s w x)
+      leads_first true = (refl, λ x q. subst (process_there s w) q t)
+      leads_first false = (l.is, l.process)
 
-  module _ (e n : ℕ) (l : Searching e n) (h : n ≡ 0 → ⊥) where
-    pub search_there : Tables s w → Area w × (1 ≤ e) × (e ≤ branch_room)
-    search_there = first_branch_there s w e n l.there h
-
-    -- a test of the first label that is left
-    module _ (a : Labelled) (o : BranchOf w e a) {b : Bool} (t : b ≡ same (name_at s (at + 1)) (name_at s (a.at + 1))) where
-      first : BeginsBranch s w e n a
-      first = first_branch_in s w e n l.there h a o
-
-      tested : (q : Bool) → b ≡ q → reached e₀ n₀ ≡ cond q (some (process_in s w a.number)) (reached (e - 1) (n - 1))
-      tested q y =
-          l.rest ∙ ap (branch_of (name_at s (at + 1))) first.is ∙ ap (λ p. cond p (some (process_in s w a.number)) (reached (e - 1) (n - 1))) (sym t ∙ y)
-
-      pub search_found : b ≡ true → BranchIs s w at e₀ n₀ (At a.number)
-      search_found y = record { is = tested true y; process = λ x q. subst (process_there s w) q first.process }
-
-      pub search_on : b ≡ false → Searching (e - 1) (n - 1)
-      search_on y = record { there = first.rest; rest = tested false y }
-
-  pub search_end : (e n : ℕ) → Searching e n → n ≡ 0 → BranchIs s w at e₀ n₀ Nothing
-  search_end e n l z = record { is = l.rest ∙ ap (reached e) z; process = λ x q. subst (process_there s w) q tt }
+    pub branch_leads : (e n : ℕ) → BranchesIn s w e n → BranchIs s w at e n (first_labelled s (branch_at w) name e n)
+    unfolding first_labelled
+    branch_leads e zero b = record { is = refl; process = λ x q. subst (process_there s w) q tt }
+    branch_leads e (suc n) b =
+        let p = branch_at w (e - 1) in
+        let f = first_branch s w e n b in
+        let l = leads_first e n p.1 f.process (branch_leads (e - 1) n f.rest) (same name (name_at s (p.0 + 1))) in
+        record { is = l.0; process = l.1 }

@@ -1,5 +1,5 @@
 -- What a turn of a comparison of two types promises, and the comparison as a whole.
-use Rattle.std.specs.Prelude.{◌≡◌, refl, ◌↔◌, List, Bool, true, false, ℕ, ◌<◌, ◌≤◌, length}
+use Rattle.std.specs.Prelude.{◌≡◌, refl, ◌↔◌, List, Bool, true, false, ℕ, ◌<◌, length}
 use Rattle.std.proofs.Common.{sym, ◌∙◌, ap, subst}
 use Rattle.trees.specs.Equal.{Equal, equal_refl}
 use Rattle.trees.proofs.Equal.{equal_closed}
@@ -16,7 +16,7 @@ use Rattle.read_tables.specs.Whole.{Tables}
 use Rattle.check_types.specs.Numbers.{node_head, head_in}
 use Rattle.check_types.specs.Acting.{StandsFor}
 use Rattle.check_types.specs.SameNumbers.{head_inside, parts_in, labels_in, stands_means, same_numbers}
-use Rattle.check_types.specs.Classes.{OwnEach, Marked, FirstWaiting}
+use Rattle.check_types.specs.Classes.{OwnEach, Marked}
 use Rattle.check_types.specs.Meeting.{never, Same, Classes, Joins, Match, Result, fine, broken, broken_by, HeadsMet, PartsIn, small_in}
 
 module _ (s w : List ℕ) where
@@ -33,11 +33,10 @@ module _ (s w : List ℕ) where
   pub record Tells (a b : ℕ) (r : Bool) : Type 0 where
     pub is : (r ≡ true) ↔ Same s w a b
 
-  -- ── the comparison, come to the waiting node i
-  pub record Going (a b : ℕ) (rep st : List ℕ) (i : ℕ) : Type 0 where
+  -- ── the comparison, as far as it has come
+  pub record Going (a b : ℕ) (rep st : List ℕ) : Type 0 where
     pub good : Classes s w a b rep st
     pub near : Near rep a b
-    pub wait : FirstWaiting st i
 
   module _ (t : Tables s w) where
     pub parts_of : {p : ℕ} {n : TypeNode} → NodeOf w p n → TypeIn s w p → PartsIn s w n
@@ -68,23 +67,24 @@ module _ (s w : List ℕ) where
           go g e (broken u d) = never z u
 
     module _ (a b : ℕ) (ta : TypeIn s w a) (tb : TypeIn s w b) where
-      pub going_start : (rep₀ st₀ rep st : List ℕ) (i : ℕ) → OwnEach rep₀ → length st₀ ≡ type_term_limit → ((k : ℕ) → k < type_term_limit → at st₀ k ≡ own) → Joins s w a b rep₀ st₀ rep st → FirstWaiting st i → Going a b rep st i
-      going_start rep₀ st₀ rep st i n l e j v =
+      pub going_start : (rep₀ st₀ rep st : List ℕ) → OwnEach rep₀ → length st₀ ≡ type_term_limit → ((k : ℕ) → k < type_term_limit → at st₀ k ≡ own) → Joins s w a b rep₀ st₀ rep st → Going a b rep st
+      going_start rep₀ st₀ rep st n l e j =
           let g : Classes s w a b rep₀ st₀ = start (small_in s w t) a b n.long l n.is e in
           let (o, c) = joined_on (small_in s w t) g ta tb (λ u. u) (j n.long l) in
-          record { good = o.good; near = c; wait = v }
+          record { good = o.good; near = c }
 
-      pub going_end : (rep st : List ℕ) (i : ℕ) → Going a b rep st i → type_term_limit ≤ i → Tells a b true
-      going_end rep st i g h = record { is = (λ e. ended (small_in s w t) (head_inside s w t) g.good (g.wait.none h) ta tb g.near, λ u. refl) }
+      pub going_end : (rep st : List ℕ) → Going a b rep st → ((i : ℕ) → i < type_term_limit → at st i ≡ waiting → ⊥) → Tells a b true
+      going_end rep st g h = record { is = (λ e. ended (small_in s w t) (head_inside s w t) g.good h ta tb g.near, λ u. refl) }
 
-  module _ (a b : ℕ) (rep st : List ℕ) (i : ℕ) (g : Going a b rep st i) (h : i < type_term_limit) where
+  -- a node i waits
+  module _ (a b : ℕ) (rep st : List ℕ) (i : ℕ) (g : Going a b rep st) (h : (i < type_term_limit) × (at st i ≡ waiting)) where
     -- a turn may look at the node and at its representative
     pub going_there : TypeIn s w i × TypeIn s w (at rep i)
-    going_there = let n = (waits_node h g.good (g.wait.here h)).1 in (n, g.good.nodes i n)
+    going_there = let n = (waits_node h.0 g.good h.1).1 in (n, g.good.nodes i n)
 
     module _ (r : Bool) (rep' st' : List ℕ) (t : Turned i rep st r rep' st') where
       after : Turn a b rep st r rep' st'
-      after = t.is a b g.good (g.wait.here h)
+      after = t.is a b g.good h.1
 
       pub going_apart : r ≡ false → Tells a b false
       going_apart z = record { is = (λ e. never e refl, λ u. go after u) }
@@ -93,11 +93,11 @@ module _ (s w : List ℕ) where
           go (less u o c l) v = never u z
           go (apart u d) v = absurd (d v)
 
-      pub going_on : r ≡ true → (k : ℕ) → FirstWaiting st' k → Going a b rep' st' k × (sum st' < sum st)
-      going_on z k v = go after
+      pub going_on : r ≡ true → Going a b rep' st' × (sum st' < sum st)
+      going_on z = go after
         where
-          go : Turn a b rep st r rep' st' → Going a b rep' st' k × (sum st' < sum st)
-          go (less u o c l) = (record { good = o; near = c a b g.near; wait = v }, l)
+          go : Turn a b rep st r rep' st' → Going a b rep' st' × (sum st' < sum st)
+          go (less u o c l) = (record { good = o; near = c a b g.near }, l)
           go (apart u d) = never z u
 
 -- ── the types i and j, which stand for the nodes a and b: the answer is the calculus' own

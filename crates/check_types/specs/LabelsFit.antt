@@ -1,13 +1,12 @@
 -- Branches against alternatives: the label of each is one of the type's.
 use Rattle.std.specs.Prelude.{ℕ, ◌-◌, ◌≤◌, ◌≡◌, refl, List, Bool, true, false, ◌&&◌}
+use Rattle.std.specs.Prelude.{Option, Some, None, is_some}
 use Rattle.std.proofs.Math.Path.{sym, ap}
 use Rattle.std.proofs.Common.{◌∙◌}
 use Rattle.std.proofs.Math.Option.{map}
 use Rattle.notation.specs.Tree.{plains}
 use Rattle.notation.specs.Tables.{Area, branch_room}
-use Rattle.notation.specs.declared.reading.Found.{Found}
-use Rattle.notation.specs.declared.reading.Found.TheVariants.{At, Nothing}
-use Rattle.calculus.specs.Named.{is_some}
+use Rattle.calculus.specs.Named as named
 use Rattle.calculus.specs.Checking.{fitting}
 use Rattle.read_tables.specs.declared.access.Labelled.{Labelled}
 use Rattle.read_tables.specs.Access.{BranchOf}
@@ -17,6 +16,11 @@ use Rattle.read_tables.specs.Search.{place_of}
 use Rattle.read_tables.specs.Whole.{Tables}
 use Rattle.check_types.specs.Alternatives.{BeginsBranch, first_branch_there, first_branch_in}
 use Rattle.check_types.specs.Labels.{LeadsTo}
+
+-- a label of the type was found
+found : (s w : List ℕ) (r : Option ℕ) → named.is_some (map (plain_in s w) (place_of r)) ≡ is_some r
+found s w (Some j) = refl
+found s w None = refl
 
 -- a test that has come to m branches before the place d
 module _ (s w : List ℕ) (e n d₀ m₀ : ℕ) where
@@ -35,22 +39,22 @@ module _ (s w : List ℕ) (e n d₀ m₀ : ℕ) where
     fit_there = first_branch_there s w d m f.there h
 
     -- what the first label that is left leads to
-    module _ (b : Labelled) (o : BranchOf w d b) {r : Found} (t : LeadsTo s w b.at e n r) where
+    module _ (b : Labelled) (o : BranchOf w d b) {r : Option ℕ} (t : LeadsTo s w b.at e n r) where
       first : BeginsBranch s w d m b
       first = first_branch_in s w d m f.there h b o
 
-      tested : (q : Found) → r ≡ q → fits d₀ m₀ ≡ (is_some (map (plain_in s w) (place_of q)) && fits (d - 1) (m - 1))
+      tested : (q : Bool) → is_some r ≡ q → fits d₀ m₀ ≡ (q && fits (d - 1) (m - 1))
       unfolding fitting
       tested q y =
           f.rest
           ∙ ap (fitting (plains (alternatives_in s w e n))) first.is
-          ∙ ap (λ x. is_some x && fits (d - 1) (m - 1)) (t.is ∙ ap (λ x. map (plain_in s w) (place_of x)) y)
+          ∙ ap (λ b. b && fits (d - 1) (m - 1)) (ap named.is_some t.is ∙ found s w r ∙ y)
 
-      pub fit_not : r ≡ Nothing → false ≡ fits d₀ m₀
-      fit_not y = sym (tested Nothing y)
+      pub fit_not : is_some r ≡ false → false ≡ fits d₀ m₀
+      fit_not y = sym (tested false y)
 
-      pub fit_on : (j : ℕ) → r ≡ At j → Fitting (d - 1) (m - 1)
-      fit_on j y = record { there = first.rest; rest = tested (At j) y }
+      pub fit_on : is_some r ≡ true → Fitting (d - 1) (m - 1)
+      fit_on y = record { there = first.rest; rest = tested true y }
 
   pub fit_end : (d m : ℕ) → Fitting d m → m ≡ 0 → true ≡ fits d₀ m₀
   unfolding fitting

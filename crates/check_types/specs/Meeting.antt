@@ -1,5 +1,6 @@
 -- What the parts of a comparison of two types promise, and a law for each way through them.
 use Rattle.std.specs.Prelude.{◌≡◌, refl, ◌⊎◌, List, Bool, true, false, ℕ, ◌+◌, ◌-◌, ◌<◌, ◌≤◌, length}
+use Rattle.std.specs.Prelude.{Option, Some, None, is_some, not}
 use Rattle.std.proofs.Common.{sym, ◌∙◌, ap, subst, inl, inr, true≢false, arith}
 use Rattle.std.proofs.Math.Option.{map}
 use Rattle.trees.specs.Both.{Both, neither, both, both_map, both_some, here_only, there_only}
@@ -14,8 +15,6 @@ use Rattle.notation.specs.Tables.{Area}
 use Rattle.notation.specs.Token.{name_at}
 use Rattle.notation.specs.Tree.{Name}
 use Rattle.notation.specs.declared.reading.TypeNode.{TypeNode}
-use Rattle.notation.specs.declared.reading.Found.{Found}
-use Rattle.notation.specs.declared.reading.Found.TheVariants.{At, Nothing}
 use Rattle.calculus.specs.SameType.{same_sound, same_refl}
 use Rattle.read_tables.specs.declared.access.Labelled.{Labelled}
 use Rattle.read_tables.specs.Access.{AlternativeOf}
@@ -27,11 +26,6 @@ use Rattle.check_types.specs.Alternatives.{first_there, first_in}
 use Rattle.check_types.specs.Acting.{StandsFor}
 use Rattle.check_types.specs.Labels.{LeadsTo}
 use Rattle.check_types.specs.SameNumbers.{number_means}
-
--- a search that found nothing
-abbrev pub absent_of : Found → Bool
-absent_of (At j) = false
-absent_of Nothing = true
 
 -- both ways at once
 pub never : {A : Type 0} {r : Bool} → r ≡ true → r ≡ false → A
@@ -126,7 +120,7 @@ module _ (s w : List ℕ) where
 
   -- ── one label
   module _ (t : Tables s w) where
-    module _ (at : ℕ) (x y : TypeNode) (rep st : List ℕ) (p q : Found) (lp : LeadsTo s w at x.first x.second p) (lq : LeadsTo s w at y.first y.second q) where
+    module _ (at : ℕ) (x y : TypeNode) (rep st : List ℕ) (p q : Option ℕ) (lp : LeadsTo s w at x.first x.second p) (lq : LeadsTo s w at y.first y.second q) where
       abbrev Here : (ℕ → ℕ → Type 0) → Type 0
       Here R = Leads x y R (name_at s (at + 1))
 
@@ -139,17 +133,19 @@ module _ (s w : List ℕ) where
       from_found : (R : ℕ → ℕ → Type 0) → Here R → BothFound R
       from_found R b = rw (lp.number, lq.number) at b
 
-      pub label_absent : (r : Bool) → p ≡ Nothing → r ≡ absent_of q → LabelMet at x y rep st r rep st
-      label_absent r e f = record { is = λ a b g n. go q refl g n }
+      pub label_absent : (r : Bool) → p ≡ None → is_some q ≡ not r → LabelMet at x y rep st r rep st
+      label_absent r e f = record { is = λ a b g n. go q r refl f g n }
         where
-          go : {a b : ℕ} (o : Found) → q ≡ o → Classes a b rep st → (Same a b → Here Same) → Result a b rep st r rep st (Here (Near rep))
-          go (At j) z g n = broken (f ∙ ap absent_of z) (λ u. there_only (rw (e, z) at (from_found Same (n u))))
-          go Nothing z g n = fine (f ∙ ap absent_of z) (on_refl g) (as_found (Near rep) (rw (e, z) neither))
+          go : {a b : ℕ} (o : Option ℕ) (r : Bool) → q ≡ o → is_some o ≡ not r → Classes a b rep st → (Same a b → Here Same) → Result a b rep st r rep st (Here (Near rep))
+          go (Some j) true z f g n = absurd (true≢false f)
+          go (Some j) false z f g n = broken refl (λ u. there_only (rw (e, z) at (from_found Same (n u))))
+          go None true z f g n = fine refl (on_refl g) (as_found (Near rep) (rw (e, z) neither))
+          go None false z f g n = absurd (true≢false (sym f))
 
-      pub label_lone : (j : ℕ) → p ≡ At j → q ≡ Nothing → LabelMet at x y rep st false rep st
+      pub label_lone : (j : ℕ) → p ≡ Some j → q ≡ None → LabelMet at x y rep st false rep st
       label_lone j e f = record { is = λ a b g n. broken refl (λ u. here_only (rw (e, f) at (from_found Same (n u)))) }
 
-      pub label_both : (i j : ℕ) (rep' st' : List ℕ) → p ≡ At i → q ≡ At j → Joins (number_for s w i) (number_for s w j) rep st rep' st' → LabelMet at x y rep st true rep' st'
+      pub label_both : (i j : ℕ) (rep' st' : List ℕ) → p ≡ Some i → q ≡ Some j → Joins (number_for s w i) (number_for s w j) rep st rep' st' → LabelMet at x y rep st true rep' st'
       label_both i j rep' st' e f k =
           record {
             is = λ a b g n.

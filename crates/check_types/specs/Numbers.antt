@@ -1,5 +1,6 @@
 -- Types as the numbers of their nodes. A name's node stands for that of its definition, so that two names of one definition are one number.
 use Prim.Native.Nat.{ℕ, zero, suc, ◌+◌, ◌-◌, ◌<◌, ◌≤◌}
+use Rattle.std.specs.Prelude.{Option, Some, None}
 use Rattle.std.specs.Prelude.{◌≡◌, List, [], ◌∷◌, Bool, cond, ltb}
 use Rattle.std.proofs.Math.Path.{refl, sym, ap}
 use Rattle.std.proofs.Common.{◌∙◌}
@@ -11,8 +12,6 @@ use Rattle.trees.specs.Heads.{Head, leaf, word, pair, choice}
 use Rattle.notation.specs.Token.{name_at}
 use Rattle.notation.specs.Tree.{Name}
 use Rattle.notation.specs.declared.reading.TypeNode.{TypeNode}
-use Rattle.notation.specs.declared.reading.Found.{Found}
-use Rattle.notation.specs.declared.reading.Found.TheVariants.{At, Nothing}
 use Rattle.read_tables.specs.declared.access.Labelled.{Labelled}
 use Rattle.read_tables.specs.Access.{AlternativeOf}
 use Rattle.read_tables.specs.Decode.{node_at, alternative_at, type_at, tally_in}
@@ -20,9 +19,9 @@ use Rattle.read_tables.specs.Program.{named_type}
 use Rattle.read_tables.specs.Search.{first_named}
 
 -- ── the number that a number stands for: that of the first declaration of its name, else itself
-abbrev pub declared_or : List ℕ → ℕ → Found → ℕ
-declared_or w i (At j) = (type_at w j).1
-declared_or w i Nothing = i
+abbrev pub declared_or : List ℕ → ℕ → Option ℕ → ℕ
+declared_or w i (Some j) = (type_at w j).1
+declared_or w i None = i
 
 abbrev pub number_by : List ℕ → List ℕ → ℕ → TypeNode → ℕ
 number_by s w i n = cond (eqb n.kind 1) (declared_or w i (first_named (name_at s n.second) (named_type s w) 0 (tally_in w).types)) i
@@ -74,7 +73,7 @@ module _ (s w : List ℕ) where
         let x = first_named (name_at s n.second) (named_type s w) 0 (tally_in w).types in
         ap (λ b. cond b (declared_or w i x) i) (sym (ne_eqb n.kind 1 z)) ∙ number_by_lem
 
-    pub number_named : n.kind ≡ 1 → (r : Found) → r ≡ first_named (name_at s n.second) (named_type s w) 0 (tally_in w).types → declared_or w i r ≡ number_for s w i
+    pub number_named : n.kind ≡ 1 → (r : Option ℕ) → r ≡ first_named (name_at s n.second) (named_type s w) 0 (tally_in w).types → declared_or w i r ≡ number_for s w i
     number_named z r e =
         let x = first_named (name_at s n.second) (named_type s w) 0 (tally_in w).types in
         ap (declared_or w i) e ∙ ap (λ b. cond b (declared_or w i x) i) (sym (eq-eqb n.kind 1 z)) ∙ number_by_lem

@@ -1,5 +1,6 @@
 -- Nodes are equal exactly when the trees are that they stand for.
 use Prim.Native.Nat.{ℕ, zero, suc, ◌+◌, ◌-◌, ◌<◌, ◌≤◌}
+use Rattle.std.specs.Prelude.{Option, Some, None}
 use Rattle.std.specs.Prelude.{◌≡◌, refl, ◌↔◌, List, Bool, cond, eqb}
 use Rattle.std.proofs.Common.{◌∙◌, subst, arith, eqb-true}
 use Rattle.std.proofs.Math.Bool.{true, false}
@@ -12,8 +13,6 @@ use Rattle.notation.specs.Bytes.{same}
 use Rattle.notation.specs.Token.{name_at}
 use Rattle.notation.specs.Tree.{Name, Ty, plains}
 use Rattle.notation.specs.declared.reading.TypeNode.{TypeNode}
-use Rattle.notation.specs.declared.reading.Found.{Found}
-use Rattle.notation.specs.declared.reading.Found.TheVariants.{At, Nothing}
 use Rattle.calculus.specs.Types.{Shape, shape, unfolded}
 use Rattle.calculus.specs.SameType.{rows, head_by, head_of}
 use Rattle.read_tables.specs.declared.access.Labelled.{Labelled}
@@ -61,11 +60,11 @@ module _ (s w : List ℕ) where
       stands : (r : ℕ) × StandsFor s w i r
       stands = go (eqb (node_at w i).kind 1) refl
         where
-          found : (r : Found) → first_named name (named_type s w) 0 (tally_in w).types ≡ r → (node_at w i).kind ≡ 1 → (r : ℕ) × StandsFor s w i r
-          found (At j) e k =
+          found : (r : Option ℕ) → first_named name (named_type s w) 0 (tally_in w).types ≡ r → (node_at w i).kind ≡ 1 → (r : ℕ) × StandsFor s w i r
+          found (Some j) e k =
               let d : Labelled = record { at = (type_at w j).0; number = (type_at w j).1 } in
               (d.number, stands_declared w i (node_at w i) node s t a k sought j d e (type_of w j d (record { at = refl; number = refl })))
-          found Nothing e k = (i, stands_undeclared w i (node_at w i) node s t a k sought e)
+          found None e k = (i, stands_undeclared w i (node_at w i) node s t a k sought e)
 
           go : (b : Bool) → eqb (node_at w i).kind 1 ≡ b → (r : ℕ) × StandsFor s w i r
           go true e = found (first_named name (named_type s w) 0 (tally_in w).types) refl (eqb-true (node_at w i).kind 1 e)

@@ -4,37 +4,29 @@ ghost use Rattle.calculus.specs.SameType.{same_type};
 ghost use Rattle.read_tables.specs.Program.{plain_in, program_in};
 ghost use Rattle.read_tables.specs.Roots.{TypeIn, AlternativesIn};
 ghost use Rattle.read_tables.specs.Whole.{Tables};
-ghost use Rattle.check_types.specs.Meeting.{TypesJoined, absent_of, LabelMet, LabelsMet, HeadsMet, PartsIn};
+ghost use Rattle.check_types.specs.Meeting.{TypesJoined, LabelMet, LabelsMet, HeadsMet, PartsIn};
+ghost use Rattle.check_types.specs.Classes.{weights};
 ghost use Rattle.check_types.specs.Comparing.{Turned, Tells};
 
 use crate::acting::{labelled, standing};
-use crate::classes::{DONE, OWN, first_waiting, join, mark, own_each, widened};
+use crate::classes::{State, first_waiting, join, mark, own_each};
 use notation::kinds;
-use notation::reading::{Found, TypeNode};
+use notation::reading::TypeNode;
 use notation::script::Script;
 use notation::token::names_equal;
 use read_tables::access::{alternative, type_node};
-
-fn is_absent(found: Found) -> bool
-    ensures { result ≡ absent_of found }
-{
-    match found {
-        Found::At(_) => false,
-        Found::Nothing => true,
-    }
-}
 
 // The nodes that the types i and j stand for are one class.
 fn join_types(
     text: &[u8],
     scratch: &[u32],
     representatives: &mut [u16; Script::TYPE_TERMS],
-    states: &mut [u8; Script::TYPE_TERMS],
+    states: &mut [State; Script::TYPE_TERMS],
     i: usize,
     j: usize,
 )
     requires { Tables text.now scratch.now × TypeIn text.now scratch.now i × TypeIn text.now scratch.now j }
-    ensures { TypesJoined text.now scratch.now i j representatives.old states.old representatives.new states.new }
+    ensures { TypesJoined text.now scratch.now i j representatives.old (weights states.old) representatives.new (weights states.new) }
 {
     let here = standing(text, scratch, i);
     let there = standing(text, scratch, j);
@@ -46,20 +38,20 @@ fn meet_label(
     text: &[u8],
     scratch: &[u32],
     representatives: &mut [u16; Script::TYPE_TERMS],
-    states: &mut [u8; Script::TYPE_TERMS],
+    states: &mut [State; Script::TYPE_TERMS],
     at: usize,
     x: TypeNode,
     y: TypeNode,
 ) -> bool
     requires { Tables text.now scratch.now × AlternativesIn text.now scratch.now x.first x.second × AlternativesIn text.now scratch.now y.first y.second }
-    ensures { LabelMet text.now scratch.now at x y representatives.old states.old result representatives.new states.new }
+    ensures { LabelMet text.now scratch.now at x y representatives.old (weights states.old) result representatives.new (weights states.new) }
 {
     let here = labelled(text, scratch, at, x.first, x.second);
     let there = labelled(text, scratch, at, y.first, y.second);
-    let Found::At(a) = here else {
-        return is_absent(there);
+    let Some(a) = here else {
+        return there.is_none();
     };
-    let Found::At(b) = there else {
+    let Some(b) = there else {
         return false;
     };
     join_types(text, scratch, representatives, states, a, b);
@@ -71,24 +63,20 @@ fn meet_labels(
     text: &[u8],
     scratch: &[u32],
     representatives: &mut [u16; Script::TYPE_TERMS],
-    states: &mut [u8; Script::TYPE_TERMS],
+    states: &mut [State; Script::TYPE_TERMS],
     e: usize,
     n: usize,
     x: TypeNode,
     y: TypeNode,
 ) -> bool
     requires { Tables text.now scratch.now × AlternativesIn text.now scratch.now e n × AlternativesIn text.now scratch.now x.first x.second × AlternativesIn text.now scratch.now y.first y.second }
-    ensures { LabelsMet text.now scratch.now e n x y representatives.old states.old result representatives.new states.new }
+    ensures { LabelsMet text.now scratch.now e n x y representatives.old (weights states.old) result representatives.new (weights states.new) }
 {
-    let mut place = e;
-    let mut left = n;
-    while left != 0 {
-        let a = alternative(scratch, place);
+    for k in 0..n {
+        let a = alternative(scratch, e - k);
         if !meet_label(text, scratch, representatives, states, a.at, x, y) {
             return false;
         }
-        place -= 1;
-        left -= 1;
     }
     true
 }
@@ -98,12 +86,12 @@ fn meet_heads(
     text: &[u8],
     scratch: &[u32],
     representatives: &mut [u16; Script::TYPE_TERMS],
-    states: &mut [u8; Script::TYPE_TERMS],
+    states: &mut [State; Script::TYPE_TERMS],
     x: TypeNode,
     y: TypeNode,
 ) -> bool
     requires { Tables text.now scratch.now × PartsIn text.now scratch.now x × PartsIn text.now scratch.now y }
-    ensures { HeadsMet text.now scratch.now x y representatives.old states.old result representatives.new states.new }
+    ensures { HeadsMet text.now scratch.now x y representatives.old (weights states.old) result representatives.new (weights states.new) }
 {
     let kind = x.kind;
     if kind != y.kind {
@@ -149,19 +137,19 @@ fn turn(
     text: &[u8],
     scratch: &[u32],
     representatives: &mut [u16; Script::TYPE_TERMS],
-    states: &mut [u8; Script::TYPE_TERMS],
+    states: &mut [State; Script::TYPE_TERMS],
     i: usize,
 ) -> bool
     requires { Tables text.now scratch.now × TypeIn text.now scratch.now i × TypeIn text.now scratch.now (get_or representatives.old i 0) }
-    ensures { Turned text.now scratch.now i representatives.old states.old result representatives.new states.new }
+    ensures { Turned text.now scratch.now i representatives.old (weights states.old) result representatives.new (weights states.new) }
 {
-    let j = widened(representatives[i]);
+    let j = usize::from(representatives[i]);
     let x = type_node(scratch, i);
     let y = type_node(scratch, j);
     if !meet_heads(text, scratch, representatives, states, x, y) {
         return false;
     }
-    mark(states, i, DONE);
+    mark(states, i, State::Done);
     true
 }
 
@@ -171,15 +159,13 @@ fn same_tree(text: &[u8], scratch: &[u32], a: usize, b: usize) -> bool
     ensures { Tells text.now scratch.now a b result }
 {
     let mut representatives = [0u16; Script::TYPE_TERMS];
-    let mut states = [OWN; Script::TYPE_TERMS];
+    let mut states = [State::Own; Script::TYPE_TERMS];
     own_each(&mut representatives);
     join(&mut representatives, &mut states, a, b);
-    let mut i = first_waiting(&states);
-    while i < Script::TYPE_TERMS {
+    while let Some(i) = first_waiting(&states) {
         if !turn(text, scratch, &mut representatives, &mut states, i) {
             return false;
         }
-        i = first_waiting(&states);
     }
     true
 }

@@ -6,7 +6,6 @@ ghost use Rattle.read_tables.specs.Roots.{AlternativesIn, alternatives_in, Branc
 ghost use Rattle.read_tables.specs.Whole.{Tables};
 
 use crate::acting::labelled;
-use notation::reading::Found;
 use read_tables::access::branch;
 
 // The m branches before the place d fit the n alternatives before the place e.
@@ -14,16 +13,11 @@ pub fn labels_fit(text: &[u8], scratch: &[u32], e: usize, n: usize, d: usize, m:
     requires { Tables text.now scratch.now × AlternativesIn text.now scratch.now e n × BranchesIn text.now scratch.now d m }
     ensures { result ≡ fitting (plains (alternatives_in text.now scratch.now e n)) (branches_in text.now scratch.now d m) }
 {
-    let mut place = d;
-    let mut left = m;
-    while left != 0 {
-        let b = branch(scratch, place);
-        let f = labelled(text, scratch, b.at, e, n);
-        let Found::At(_) = f else {
+    for k in 0..m {
+        let b = branch(scratch, d - k);
+        if labelled(text, scratch, b.at, e, n).is_none() {
             return false;
-        };
-        place -= 1;
-        left -= 1;
+        }
     }
     true
 }

@@ -7,29 +7,30 @@ ghost use Rattle.check_types.specs.LeftOut.{out_in, own_left_out};
 ghost use Rattle.check_types.specs.Sought.{Sought};
 
 use crate::branches::branch_of;
-use notation::reading::Found;
 use read_tables::access::alternative;
+use std::ops::ControlFlow;
 
-// Where the label's apostrophe stands; or all were passed over, and so many are still to be.
-#[derive(Clone, Copy)]
-pub enum LeftOut {
-    At(usize),
-    Past(usize),
-}
+// A search breaks with where the label's apostrophe stands; where it goes on, all were passed over, and so many are still to be.
 
 // The label whose apostrophe stands at `at`, where there is no branch for it among the m before the place d: it is the only one.
-fn own_left_out(text: &[u8], scratch: &[u32], at: usize, d: usize, m: usize, k: usize) -> LeftOut
+fn own_left_out(
+    text: &[u8],
+    scratch: &[u32],
+    at: usize,
+    d: usize,
+    m: usize,
+    k: usize,
+) -> ControlFlow<usize, usize>
     requires { Tables text.now scratch.now × BranchesIn text.now scratch.now d m }
     ensures { Sought (own_left_out text.now scratch.now at d m) k (out_in text.now result) }
 {
-    let f = branch_of(text, scratch, at, d, m);
-    let Found::Nothing = f else {
-        return LeftOut::Past(k);
-    };
-    if k == 0 {
-        return LeftOut::At(at);
+    if branch_of(text, scratch, at, d, m).is_some() {
+        return ControlFlow::Continue(k);
     }
-    LeftOut::Past(k - 1)
+    if k == 0 {
+        return ControlFlow::Break(at);
+    }
+    ControlFlow::Continue(k - 1)
 }
 
 // The label k of those, among the n alternatives before the place e, that the m branches before the place d leave out.
@@ -41,22 +42,14 @@ pub fn left_out(
     d: usize,
     m: usize,
     k: usize,
-) -> LeftOut
+) -> ControlFlow<usize, usize>
     requires { Tables text.now scratch.now × AlternativesIn text.now scratch.now e n × BranchesIn text.now scratch.now d m }
     ensures { Sought (left_out (plains (alternatives_in text.now scratch.now e n)) (branches_in text.now scratch.now d m)) k (out_in text.now result) }
 {
-    let mut place = e;
-    let mut rest = n;
     let mut left = k;
-    while rest != 0 {
-        let a = alternative(scratch, place);
-        let o = own_left_out(text, scratch, a.at, d, m, left);
-        let LeftOut::Past(j) = o else {
-            return o;
-        };
-        left = j;
-        place -= 1;
-        rest -= 1;
+    for i in 0..n {
+        let a = alternative(scratch, e - i);
+        left = own_left_out(text, scratch, a.at, d, m, left)?;
     }
-    LeftOut::Past(left)
+    ControlFlow::Continue(left)
 }

@@ -1,5 +1,5 @@
 -- Demands 1 and 3 of the code, as statements: calls of the entries, known by their contracts alone; lists of them beside the plain machine fed with the same calls.
-use Rattle.std.specs.Prelude.{ℕ, ◌≤◌, ◌≡◌, ◌≢◌, List, [], ◌∷◌, ◌++◌, map, true, cond, leb, length, take}
+use Rattle.std.specs.Prelude.{ℕ, ◌≤◌, ◌≡◌, ◌≢◌, List, [], ◌∷◌, ◌++◌, map, true, cond, leb, length, take, Ok}
 use Rattle.notation.specs.Limits.{run_words}
 use Rattle.notation.specs.Tree.{Declaration}
 use Rattle.calculus.specs.Accepted.{accepted, checked}
@@ -7,7 +7,6 @@ use Rattle.calculus.specs.Configuration.{Config}
 use Rattle.calculus.specs.Demands.{is_refused, SafeExchange}
 use Rattle.calculus.specs.Machine.{Call, started, respond, idle}
 use Rattle.calculus.specs.Program.{Program, program_of}
-use Rattle.calculus.specs.declared.answers.Started.TheVariants.{Begun}
 use Rattle.theory_refusals.specs.Refusals.{refusal_of}
 use Rattle.interpreter.specs.Entries.{EntryCall, call_of, config_of, HoldsRun, Answers}
 
@@ -55,6 +54,6 @@ pub record Agrees (s : List ℕ) (p : Program) (C : Config) (run : List ℕ) (m 
 -- "one theorem about every list of calls": at each call m of a list that begins with a start carried out
 pub record Demand3 : Type 0 where
   pub agrees : (s : List ℕ) (ds : List Declaration) → checked s ≡ accepted ds
-      → (run : List ℕ) (first : EntryCall) (rest : List EntryCall) → first.answer ≡ started Begun → Linked s run (first ∷ rest)
+      → (run : List ℕ) (first : EntryCall) (rest : List EntryCall) → first.answer ≡ started (Ok tt) → Linked s run (first ∷ rest)
       → (before : List EntryCall) (m : EntryCall) (after : List EntryCall) → first ∷ rest ≡ before ++ (m ∷ after)
       → Agrees s (program_of ds) (replayed s idle (map call_of before)) (left_by_all run before) m

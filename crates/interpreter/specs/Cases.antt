@@ -1,11 +1,11 @@
 -- The cases of an entry's answer: what holds of every refusal, and of every answer that is none, holds of its answer.
-use Rattle.std.specs.Prelude.{ℕ, ◌≤◌, ◌≡◌, refl, ◌⊎◌, List, Bool, true, false, cond, leb, length}
+use Rattle.std.specs.Prelude.{ℕ, ◌≤◌, ◌≡◌, refl, ◌⊎◌, List, Bool, true, false, cond, leb, length, Ok}
 use Rattle.std.proofs.Common.{arith, sym, ◌∙◌, ap, subst, inl, inr}
 use Rattle.std.proofs.Math.Option.{Option, some, none}
 use Rattle.std.proofs.Math.ListN.{get_elem?}
 use Rattle.notation.specs.Limits.{scratch_words, run_words}
 use Rattle.calculus.specs.Accepted.{Checked, accepted, faulty, checked}
-use Rattle.calculus.specs.Answers.{started_as, stepped_as, ran_on_as, reported_as, surveyed_as}
+use Rattle.calculus.specs.Answers.{started_as, stepped_as, ran_on_as, counted_as}
 use Rattle.calculus.specs.Configuration.{Process, Config, at}
 use Rattle.calculus.specs.Demands.{is_refused}
 use Rattle.calculus.specs.Machine.{Answer, started, stepped, ran_on, reported, surveyed, name_given, Reply, on_program, on_run, on_line, on_going, on_place, on_step, text_checked, idle}
@@ -14,36 +14,32 @@ use Rattle.calculus.specs.Runs.{exec_of, run_on, report, places}
 use Rattle.calculus.specs.Steps.{Outcome, carried, uncaught, not_open, lacking, step}
 use Rattle.calculus.specs.declared.answers.RanOn.{RanOn}
 use Rattle.calculus.specs.declared.answers.Seen.{Seen}
-use Rattle.calculus.specs.declared.answers.Started.TheVariants as starts
 use Rattle.calculus.specs.declared.answers.Stepped.TheVariants as steps
-use Rattle.calculus.specs.declared.answers.Reported.TheVariants as reports
-use Rattle.calculus.specs.declared.answers.Surveyed.TheVariants as surveys
 use Rattle.theory_refusals.specs.Refusals.{refusal_of, offset_of, checked_numbered}
-use Rattle.theory_safety.specs.Replies.{run_never_refused}
 use Rattle.interpreter.specs.Entries.{Request, to_start, to_step, to_run_on, to_report, to_places, to_name, EntryCall, RunUse, anew, read, unlent, use_of, config_of, HoldsRun, Reached, Answers}
 use Rattle.interpreter.specs.Past.{refusal_to, refuse, on_lent, past_run, refusal_is, reply_by}
 
 -- X holds of the answers to a request that are no refusals; a list comes with its count
 abbrev pub OfGiven : (Answer → Type 0) → Request → Type 0
-OfGiven X (to_start line) = X (started starts.Begun)
-OfGiven X (to_step place) = ((seen : Seen) → X (stepped (steps.Carried seen))) × X (stepped steps.Uncaught)
-OfGiven X (to_run_on budget) = (a : RanOn) → is_refused (ran_on a) ≡ false → X (ran_on a)
-OfGiven X to_report = (l : List ℕ) → X (reported (reports.Open (length l)) l)
-OfGiven X to_places = (l : List ℕ) → X (surveyed (surveys.Processes (length l)) l)
+OfGiven X (to_start line) = X (started (Ok tt))
+OfGiven X (to_step place) = ((seen : Seen) → X (stepped (Ok (steps.Carried seen)))) × X (stepped (Ok steps.Uncaught))
+OfGiven X (to_run_on budget) = (a : RanOn) → X (ran_on (Ok a))
+OfGiven X to_report = (l : List ℕ) → X (reported (Ok (length l)) l)
+OfGiven X to_places = (l : List ℕ) → X (surveyed (Ok (length l)) l)
 OfGiven X (to_name line) = (part : List ℕ) → X (name_given part 0 0)
 
 -- so it does, if it holds of whatever is no refusal
 pub of_unrefused : (X : Answer → Type 0) → ((a : Answer) → is_refused a ≡ false → X a) → (q : Request) → OfGiven X q
 of_unrefused X f (to_start line) = f _ refl
 of_unrefused X f (to_step place) = (λ seen. f _ refl, f _ refl)
-of_unrefused X f (to_run_on budget) = λ a e. f _ e
+of_unrefused X f (to_run_on budget) = λ a. f _ refl
 of_unrefused X f to_report = λ l. f _ refl
 of_unrefused X f to_places = λ l. f _ refl
 of_unrefused X f (to_name line) = λ part. f _ refl
 
 -- a refusal's number and offset
 pub refusal_number : (q : Request) (k i : ℕ) → refusal_of (refusal_to q k i) ≡ k
-unfolding started_as stepped_as ran_on_as reported_as surveyed_as
+unfolding started_as stepped_as ran_on_as counted_as
 refusal_number (to_start line) k i = refl
 refusal_number (to_step place) k i = refl
 refusal_number (to_run_on budget) k i = refl
@@ -103,7 +99,7 @@ past_run_lem X p (to_start line) C r g = on_line_lem X (to_start line) C r (exec
 past_run_lem X p (to_step place) C r g =
     let q = to_step place in
     on_going_lem X q C r C.halted (on_place_lem X q C r (at C place) (on_step_lem X q C r (step p C place) (λ seen D. record { by = g.0 seen }) (record { by = g.1 })))
-past_run_lem X p (to_run_on budget) C r g = record { by = g (run_on p C budget).answer (run_never_refused p C budget) }
+past_run_lem X p (to_run_on budget) C r g = record { by = g (run_on p C budget).answer }
 past_run_lem X p to_report C r g = record { by = g (report C) }
 past_run_lem X p to_places C r g = record { by = g (places p C) }
 past_run_lem X p (to_name line) C r g = on_line_lem X (to_name line) C r (get_elem? p.execs line) (λ n. record { by = g n.name })

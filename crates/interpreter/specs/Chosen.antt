@@ -1,8 +1,10 @@
 -- Demand 2 of the code: an entry refuses a text exactly where it has no derivation, and a step's call does exactly what the reduction rules say.
-use Rattle.std.specs.Prelude.{ℕ, ◌≤◌, ◌≡◌, refl, ◌↔◌, ◌⊎◌, List, Bool, true, false, leb, length}
+use Rattle.std.specs.Prelude.{ℕ, ◌≤◌, ◌≡◌, refl, ◌↔◌, ◌⊎◌, List, Bool, true, false, leb, length, Ok, Err}
 use Rattle.std.proofs.Common.{arith, sym, ◌∙◌, ap, subst, inl, inr, true≢false, leb-true, leb-false}
 use Rattle.std.proofs.Math.Option.{Option, some}
 use Rattle.notation.specs.Limits.{scratch_words}
+use Rattle.notation.specs.Refusals.{OrRefusal}
+use Rattle.notation.specs.Refusals as refusals
 use Rattle.notation.specs.Tree.{Declaration}
 use Rattle.calculus.specs.Accepted.{Checked, accepted, faulty, checked}
 use Rattle.calculus.specs.Configuration.{Process, Config, halt, at}
@@ -13,8 +15,7 @@ use Rattle.calculus.specs.Reduces.{Reduces, Halts, Lacks, Open}
 use Rattle.calculus.specs.Steps.{Outcome, step}
 use Rattle.calculus.specs.declared.answers.Seen.{Seen}
 use Rattle.calculus.specs.declared.answers.Stepped.{Stepped}
-use Rattle.calculus.specs.declared.answers.Stepped.TheVariants as steps
-use Rattle.calculus.specs.declared.answers.Stepped.TheVariants.{Carried, Uncaught, Refused}
+use Rattle.calculus.specs.declared.answers.Stepped.TheVariants.{Carried, Uncaught}
 use Rattle.theory_reductions.specs.CarriedOut.{lacks_out}
 use Rattle.theory_reductions.specs.Demand.{demand2}
 use Rattle.theory_reductions.specs.StepIff.{applies_place, one_reduction}
@@ -86,7 +87,7 @@ module _ (s : List ℕ) (m : EntryCall) (A : Answers s m) where
           omega (arith, z, b)
 
 -- ── a step's call
-abbrev step_in : Stepped → Answer → Stepped
+abbrev step_in : OrRefusal Stepped → Answer → OrRefusal Stepped
 step_in r (started a) = r
 step_in r (stepped a) = a
 step_in r (ran_on a) = r
@@ -95,12 +96,12 @@ step_in r (surveyed a l) = r
 step_in r (name_given l n i) = r
 
 -- a reply that tells of a halt leaves the configuration halted
-halted_by : {p : Program} {C : Config} {scratch run place : ℕ} {y : Reply} → Replied p C (call_step scratch run place) y → y.answer ≡ stepped Uncaught → y.config ≡ halt C
+halted_by : {p : Program} {C : Config} {scratch run place : ℕ} {y : Reply} → Replied p C (call_step scratch run place) y → y.answer ≡ stepped (Ok Uncaught) → y.config ≡ halt C
 halted_by (refuses n i) e = absurd (true≢false (ap is_refused e))
 halted_by (carries_out seen D g h) e = absurd (let z : ◌≡◌ {A = ℕ} 0 1 = cc in omega arith)
 halted_by (halts_run g h) e = refl
 
-module _ (s : List ℕ) (ds : List Declaration) (ok : checked s ≡ accepted ds) (w ws v vs : List ℕ) (i : ℕ) (r : Stepped) (A : Steps s w ws i r v vs) (enough : Enough (length w) (length ws)) (h : HoldsRun s ws) where
+module _ (s : List ℕ) (ds : List Declaration) (ok : checked s ≡ accepted ds) (w ws v vs : List ℕ) (i : ℕ) (r : OrRefusal Stepped) (A : Steps s w ws i r v vs) (enough : Enough (length w) (length ws)) (h : HoldsRun s ws) where
   abbrev p : Program
   p = program_of ds
 
@@ -117,7 +118,7 @@ module _ (s : List ℕ) (ds : List Declaration) (ok : checked s ≡ accepted ds)
   tells = A.known (λ _. h)
 
   -- what the plain machine replies is what is answered and left
-  as_replied : {a : Stepped} {D : Config} → plain ≡ reply (stepped a) D → is_refused (stepped a) ≡ false → (r ≡ a) × Leaves s ws vs D
+  as_replied : {a : OrRefusal Stepped} {D : Config} → plain ≡ reply (stepped a) D → is_refused (stepped a) ≡ false → (r ≡ a) × Leaves s ws vs D
   as_replied {a} {D} e f = let y = subst Tells e tells in (ap (step_in r) y.0.is, subst (left_as s ws vs D) f y.1.is)
 
   -- an answer that is no refusal leaves the plain machine's configuration
@@ -125,41 +126,41 @@ module _ (s : List ℕ) (ds : List Declaration) (ok : checked s ≡ accepted ds)
   left f = subst (left_as s ws vs plain.config) (ap is_refused (sym tells.0.is) ∙ f) tells.1.is
 
   -- and where it leaves D, it is the reply
-  replies : {a : Stepped} {D : Config} → r ≡ a → is_refused (stepped a) ≡ false → Leaves s ws vs D → plain ≡ reply (stepped a) D
+  replies : {a : OrRefusal Stepped} {D : Config} → r ≡ a → is_refused (stepped a) ≡ false → Leaves s ws vs D → plain ≡ reply (stepped a) D
   replies {a} {D} e f l =
       let z = sym tells.0.is ∙ ap stepped e in
       let c = sym (left (ap (λ b. is_refused (stepped b)) e ∙ f)).is ∙ l.is in
       λ j. reply (z j) (c j)
 
-  carried_out_lem : (seen : Seen) (D : Config) → ((r ≡ Carried seen) × Leaves s ws vs D) ↔ ((B.halted ≡ false) × Reduces p B i seen D)
+  carried_out_lem : (seen : Seen) (D : Config) → ((r ≡ Ok (Carried seen)) × Leaves s ws vs D) ↔ ((B.halted ≡ false) × Reduces p B i seen D)
   carried_out_lem seen D =
       let k = demand2.carried_out s ds ok B (length w) (length ws) i enough seen D in
       (λ (e, l). k.0 (replies e refl l), λ t. as_replied (k.1 t) refl)
 
-  halts : ((r ≡ Uncaught) × Leaves s ws vs (halt B)) ↔ ((B.halted ≡ false) × Halts B i)
+  halts : ((r ≡ Ok Uncaught) × Leaves s ws vs (halt B)) ↔ ((B.halted ≡ false) × Halts B i)
   halts = let k = demand2.uncaught s ds ok B (length w) (length ws) i enough in (λ (e, l). k.0 (replies e refl l), λ t. as_replied (k.1 t) refl)
 
-  taken : is_refused (stepped r) ≡ false → ((seen : Seen) × (D : Config) × (r ≡ Carried seen) × Leaves s ws vs D) ⊎ ((r ≡ Uncaught) × Leaves s ws vs (halt B))
+  taken : is_refused (stepped r) ≡ false → ((seen : Seen) × (D : Config) × (r ≡ Ok (Carried seen)) × Leaves s ws vs D) ⊎ ((r ≡ Ok Uncaught) × Leaves s ws vs (halt B))
   taken f = go r refl f
     where
-      go : (a : Stepped) → r ≡ a → is_refused (stepped a) ≡ false → ((seen : Seen) × (D : Config) × (r ≡ Carried seen) × Leaves s ws vs D) ⊎ ((r ≡ Uncaught) × Leaves s ws vs (halt B))
-      go (steps.Carried seen) e g = inl (seen, plain.config, e, left f)
-      go steps.Uncaught e g = inr (e, subst (Leaves s ws vs) (halted_by (replied s ds ok B (call_step (length w) (length ws) i)) (sym tells.0.is ∙ ap stepped e)) (left f))
-      go (steps.Refused n k) e g = absurd (true≢false g)
+      go : (a : OrRefusal Stepped) → r ≡ a → is_refused (stepped a) ≡ false → ((seen : Seen) × (D : Config) × (r ≡ Ok (Carried seen)) × Leaves s ws vs D) ⊎ ((r ≡ Ok Uncaught) × Leaves s ws vs (halt B))
+      go (Ok (Carried seen)) e g = inl (seen, plain.config, e, left f)
+      go (Ok Uncaught) e g = inr (e, subst (Leaves s ws vs) (halted_by (replied s ds ok B (call_step (length w) (length ws) i)) (sym tells.0.is ∙ ap stepped e)) (left f))
+      go (Err k) e g = absurd (true≢false g)
 
   refused : Open p B i → (is_refused (stepped r) ≡ true) ↔ Lacks B i
   refused o = subst (λ a. (is_refused a ≡ true) ↔ Lacks B i) (sym tells.0.is) (refused_where s ds ok B (call_step (length w) (length ws) i) enough o)
 
-  lacking_21 : Open p B i → Lacks B i → r ≡ Refused 21 0
+  lacking_21 : Open p B i → Lacks B i → r ≡ refusals.refuses 21 0
   lacking_21 o l = ap (step_in r) (tells.0.is ∙ ap (λ (y : Reply). y.answer) reply_is)
     where
       f : ℕ → ℕ → Reply
       f = refuse (to_step i) B
 
       after : Bool → Option Process → Outcome → Reply
-      after b q t = on_going b f (on_place q f (on_step t f (λ seen D. reply (stepped (Carried seen)) D) (reply (stepped Uncaught) (halt B))))
+      after b q t = on_going b f (on_place q f (on_step t f (λ seen D. reply (stepped (Ok (Carried seen))) D) (reply (stepped (Ok Uncaught)) (halt B))))
 
-      reply_is : plain ≡ reply (stepped (Refused 21 0)) B
+      reply_is : plain ≡ reply (stepped (refusals.refuses 21 0)) B
       reply_is =
           reply_accepted s ds ok (to_step i) B (length w) (length ws) enough.scratch_enough
           ∙ lent_past read (length ws) f _ (λ _. enough.run_enough)
@@ -168,11 +169,11 @@ module _ (s : List ℕ) (ds : List Declaration) (ok : checked s ≡ accepted ds)
           ∙ ap (λ t. after false (some (applies_place p B i o.applies).0) t) (lacks_out p l)
 
   chosen : Open p B i → ¬ Lacks B i
-      → ((seen : Seen) × (D : Config) × Reduces p B i seen D × (r ≡ Carried seen) × Leaves s ws vs D) ⊎ (Halts B i × (r ≡ Uncaught) × Leaves s ws vs (halt B))
+      → ((seen : Seen) × (D : Config) × Reduces p B i seen D × (r ≡ Ok (Carried seen)) × Leaves s ws vs D) ⊎ (Halts B i × (r ≡ Ok Uncaught) × Leaves s ws vs (halt B))
   chosen o n = go (demand2.chosen s ds ok B (length w) (length ws) i enough o n)
     where
       go : ((seen : Seen) × (D : Config) × Reduces p B i seen D × Answered s B (length w) (length ws) i seen D) ⊎ (Halts B i × AnsweredUncaught s B (length w) (length ws) i)
-          → ((seen : Seen) × (D : Config) × Reduces p B i seen D × (r ≡ Carried seen) × Leaves s ws vs D) ⊎ (Halts B i × (r ≡ Uncaught) × Leaves s ws vs (halt B))
+          → ((seen : Seen) × (D : Config) × Reduces p B i seen D × (r ≡ Ok (Carried seen)) × Leaves s ws vs D) ⊎ (Halts B i × (r ≡ Ok Uncaught) × Leaves s ws vs (halt B))
       go (inl (seen, D, t, a)) = let y = as_replied a refl in inl (seen, D, t, y.0, y.1)
       go (inr (t, a)) = let y = as_replied a refl in inr (t, y.0, y.1)
 
@@ -185,9 +186,9 @@ entries_demand2 = record { accepts = λ s m A. (refused_underivable s m A, under
 -- ── what this rules out, of programs that keep their other promises
 module _ {s : List ℕ} {p : Program} {C : Config} {i : ℕ} {ws : List ℕ} where
   -- "not open" everywhere, or any other refusal, where a step is open and does not lack
-  pub refuses_breaks : {vs : List ℕ} {n k : ℕ} → StepsByRules s p C i ws vs (Refused n k) → Open p C i → ¬ Lacks C i → ⊥
+  pub refuses_breaks : {vs : List ℕ} {n k : ℕ} → StepsByRules s p C i ws vs (refusals.refuses n k) → Open p C i → ¬ Lacks C i → ⊥
   refuses_breaks h o n = n ((h.refused o).0 refl)
 
   -- "a step that alters nothing", where the rules leave another configuration
-  pub alters_nothing_breaks : {seen : Seen} {D : Config} → StepsByRules s p C i ws ws (Carried seen) → HoldsRun s ws → config_of s ws ≡ C → Reduces p C i seen D → (D ≡ C → ⊥) → ⊥
+  pub alters_nothing_breaks : {seen : Seen} {D : Config} → StepsByRules s p C i ws ws (Ok (Carried seen)) → HoldsRun s ws → config_of s ws ≡ C → Reduces p C i seen D → (D ≡ C → ⊥) → ⊥
   alters_nothing_breaks {seen} h f e r n = n (one_reduction p C i r ((h.carried_out seen C).0 (refl, record { holds = f; is = e; past = refl; long = refl })).1).1

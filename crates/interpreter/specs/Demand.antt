@@ -1,5 +1,5 @@
 -- Demand 3 of the code: at each call of a list the entry's answer is the plain machine's, and the run holds its configuration.
-use Rattle.std.specs.Prelude.{ℕ, ◌≡◌, refl, ◌⊎◌, Bool, true, false, cond, leb, length, take}
+use Rattle.std.specs.Prelude.{ℕ, ◌≡◌, refl, ◌⊎◌, Bool, true, false, cond, leb, length, take, Ok}
 use Rattle.std.proofs.Common.{sym, ◌∙◌, ap, subst, inl, inr, true≢false, leb-true, leb-false, arith}
 use mathlib.Core.List.{List, [], ◌∷◌, ◌++◌, map, cons-ne-nil}
 use Rattle.std.proofs.lemmas.Bool.{false≢true}
@@ -13,7 +13,6 @@ use Rattle.calculus.specs.Demands.{is_refused, SafeExchange}
 use Rattle.calculus.specs.Machine.{Call, call_start, started, respond, idle}
 use Rattle.calculus.specs.Program.{program_of}
 use Rattle.calculus.specs.WellFormed.{WellFormed}
-use Rattle.calculus.specs.declared.answers.Started.TheVariants.{Begun}
 use Rattle.theory_safety.specs.Replies.{unchanged_by, replied}
 use Rattle.theory_safety.specs.Safety.{has_begun, refusal_begins_none, is_start, begun_start, reply_keeps, begun_well_formed, exchange_safe, start_safe}
 use Rattle.read_tables.specs.Decode.{process_in}
@@ -149,7 +148,7 @@ module _ (s : List ℕ) (ds : List Declaration) (ok : checked s ≡ accepted ds)
   start_asked to_places n m e = absurd (false≢true e)
   start_asked (to_name line) n m e = absurd (false≢true e)
 
-  begins : (run : List ℕ) (m : EntryCall) → Answers s m → m.answer ≡ started Begun → BegunBy run m (call_of m)
+  begins : (run : List ℕ) (m : EntryCall) → Answers s m → m.answer ≡ started (Ok tt) → BegunBy run m (call_of m)
   begins run m A b =
       let q = start_asked m.request n k (begun_start (replied s ds ok C (call_of m)) (ap has_begun (sym known.0.is ∙ b))) in
       subst (λ q. BegunBy run m (call_as q n k)) (sym q.1) (at_line q.0 (subst AtRequest q.1 (known.0.is, known.1)))
@@ -196,7 +195,7 @@ module _ (s : List ℕ) (ds : List Declaration) (ok : checked s ≡ accepted ds)
               let y = subst (left_as s ws vs (respond s C (call_start n k line)).config) done f.is in
               in_left m run (u.wide done) (in_front s _ vs (record { formed = y.holds; is = y.is ∙ u.config done }))
 
-  from_start : (run : List ℕ) (first : EntryCall) (rest : List EntryCall) → first.answer ≡ started Begun → Linked s run (first ∷ rest) → AtEach idle run (first ∷ rest)
+  from_start : (run : List ℕ) (first : EntryCall) (rest : List EntryCall) → first.answer ≡ started (Ok tt) → Linked s run (first ∷ rest) → AtEach idle run (first ∷ rest)
   from_start run first rest b (k, d, l) =
       let y = begins run first k b in
       at_all idle run first rest (agrees_with idle run first (record { answer = y.answer; after = y.after }) y.plain)

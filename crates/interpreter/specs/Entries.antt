@@ -1,26 +1,22 @@
 -- What each entry promises: its answer and every word that it was lent, for all texts, slices and numbers. s is the text.
-use Rattle.std.specs.Prelude.{ℕ, zero, suc, ◌≤◌, ◌≡◌, ◌⊎◌, List, [], ◌++◌, Bool, true, false, cond, leb, length, get_or, take, drop}
+use Rattle.std.specs.Prelude.{ℕ, zero, suc, ◌≤◌, ◌≡◌, ◌⊎◌, List, [], ◌++◌, Bool, true, false, cond, leb, length, get_or, take, drop, Ok, Err, IfOk, IfErr}
 use Rattle.std.proofs.Common.{ap}
 use Rattle.std.proofs.Math.Option.{Option, some, none}
 use Rattle.std.proofs.Math.ListN.{get_elem?}
 use Rattle.notation.specs.Limits.{scratch_words, run_words}
+use Rattle.notation.specs.Refusals.{OrRefusal}
 use Rattle.notation.specs.Tables.{tables}
 use Rattle.notation.specs.Token.{name_at}
 use Rattle.notation.specs.Tree.{Located, Declaration}
 use Rattle.calculus.specs.Accepted.{Checked, accepted, faulty, checked}
-use Rattle.calculus.specs.Answers.{Told, refused_as, given_as, started_as, stepped_as, ran_on_as, reported_as, surveyed_as}
+use Rattle.calculus.specs.Answers.{Told, refused_as, given_as, started_as, stepped_as, ran_on_as, counted_as}
 use Rattle.calculus.specs.Configuration.{Config}
 use Rattle.calculus.specs.Demands.{is_refused}
 use Rattle.calculus.specs.Machine.{Call, call_start, call_step, call_run_on, call_report, call_places, call_exec_name, Answer, started, stepped, ran_on, reported, surveyed, name_given, Reply, refusal, respond, idle}
 use Rattle.calculus.specs.Program.{program_of}
-use Rattle.calculus.specs.declared.answers.Started.{Started}
 use Rattle.calculus.specs.declared.answers.Stepped.{Stepped}
 use Rattle.calculus.specs.declared.answers.RanOn.{RanOn}
-use Rattle.calculus.specs.declared.answers.Reported.{Reported}
-use Rattle.calculus.specs.declared.answers.Reported.TheVariants.{Open, Refused}
 use Rattle.calculus.specs.declared.answers.Report.{Report}
-use Rattle.calculus.specs.declared.answers.Surveyed.{Surveyed}
-use Rattle.calculus.specs.declared.answers.Surveyed.TheVariants as surveys
 use Rattle.calculus.specs.declared.answers.Places.{Places}
 use Rattle.run_words.specs.Raw.{raw_in}
 use Rattle.run_alone.specs.Run.{config_in}
@@ -129,8 +125,8 @@ abbrev pub answer_as : Answer → Told
 answer_as (started a) = started_as a
 answer_as (stepped a) = stepped_as a
 answer_as (ran_on a) = ran_on_as a
-answer_as (reported a l) = listed_as (reported_as a) l
-answer_as (surveyed a l) = listed_as (surveyed_as a) l
+answer_as (reported a l) = listed_as (counted_as a) l
+answer_as (surveyed a l) = listed_as (counted_as a) l
 answer_as (name_given part n at) = named_as part n at
 
 -- the very answer of a reply, so the same number and values
@@ -162,41 +158,36 @@ pub record Answers (s : List ℕ) (m : EntryCall) : Type 0 where
   pub known : (Reached s m → HoldsRun s m.lent.run) → Gives m.answer (plain_reply s m) × RunAfter s m.request m.lent.run m.left.run (plain_reply s m)
 
 -- ── the entries: w and ws are the scratch and run words lent, v and vs what they are afterwards
-abbrev pub Starts : List ℕ → List ℕ → List ℕ → ℕ → Started → List ℕ → List ℕ → Type 0
+abbrev pub Starts : List ℕ → List ℕ → List ℕ → ℕ → OrRefusal (Unit {0}) → List ℕ → List ℕ → Type 0
 Starts s w ws line r v vs = Answers s (called (to_start line) w ws (started r) v vs)
 
-abbrev pub Steps : List ℕ → List ℕ → List ℕ → ℕ → Stepped → List ℕ → List ℕ → Type 0
+abbrev pub Steps : List ℕ → List ℕ → List ℕ → ℕ → OrRefusal Stepped → List ℕ → List ℕ → Type 0
 Steps s w ws place r v vs = Answers s (called (to_step place) w ws (stepped r) v vs)
 
-abbrev pub RunsOn : List ℕ → List ℕ → List ℕ → ℕ → RanOn → List ℕ → List ℕ → Type 0
+abbrev pub RunsOn : List ℕ → List ℕ → List ℕ → ℕ → OrRefusal RanOn → List ℕ → List ℕ → Type 0
 RunsOn s w ws budget r v vs = Answers s (called (to_run_on budget) w ws (ran_on r) v vs)
 
--- an entry that lists, in an array beside its answer: the list stands first, then zeros; the run is only read
-pub record Lists (s w ws : List ℕ) (q : Request) (a : Answer) (count : ℕ) (words v : List ℕ) : Type 0 where
+-- an entry that lists, in an array beside a count: the list stands first, then zeros; a refusal has neither; the run is only read
+abbrev pub ZerosFrom : ℕ → List ℕ → Type 0
+ZerosFrom count words = (k : ℕ) → count ≤ k → get_or words k 0 ≡ 0
+
+pub record Lists (s w ws : List ℕ) (q : Request) (a : Answer) (Rest : Type 0) (v : List ℕ) : Type 0 where
   pub answers : Answers s (called q w ws a v ws)
-  pub rest : (k : ℕ) → count ≤ k → get_or words k 0 ≡ 0
+  pub rest : Rest
 
--- how many numbers a report lists
-abbrev pub counted : Reported → ℕ
-counted (Open n) = n
-counted (Refused n i) = 0
+abbrev pub report_answer : OrRefusal Report → Answer
+report_answer (Ok r) = reported (Ok r.open) (take r.open r.numbers)
+report_answer (Err e) = reported (Err e) []
 
-abbrev pub report_answer : Report → Answer
-report_answer r = reported r.answer (take (counted r.answer) r.numbers)
+abbrev pub Reports : List ℕ → List ℕ → List ℕ → OrRefusal Report → List ℕ → Type 0
+Reports s w ws r v = Lists s w ws to_report (report_answer r) (IfOk r λ l. ZerosFrom l.open l.numbers) v
 
-abbrev pub Reports : List ℕ → List ℕ → List ℕ → Report → List ℕ → Type 0
-Reports s w ws r v = Lists s w ws to_report (report_answer r) (counted r.answer) r.numbers v
+abbrev pub places_answer : OrRefusal Places → Answer
+places_answer (Ok r) = surveyed (Ok r.processes) (take r.processes r.steps)
+places_answer (Err e) = surveyed (Err e) []
 
--- of how many places a survey tells
-abbrev pub places_counted : Surveyed → ℕ
-places_counted (surveys.Processes n) = n
-places_counted (surveys.Refused n i) = 0
-
-abbrev pub places_answer : Places → Answer
-places_answer r = surveyed r.answer (take (places_counted r.answer) r.steps)
-
-abbrev pub Surveys : List ℕ → List ℕ → List ℕ → Places → List ℕ → Type 0
-Surveys s w ws r v = Lists s w ws to_places (places_answer r) (places_counted r.answer) r.steps v
+abbrev pub Surveys : List ℕ → List ℕ → List ℕ → OrRefusal Places → List ℕ → Type 0
+Surveys s w ws r v = Lists s w ws to_places (places_answer r) (IfOk r λ l. ZerosFrom l.processes l.steps) v
 
 -- the name of an exec line, "handed back as the part of the lent text that holds it"; the refusal's number and offset "stand in two lent numbers, both 0 otherwise"
 abbrev pub Names : List ℕ → List ℕ → ℕ → List ℕ → ℕ → ℕ → List ℕ → Type 0
@@ -215,6 +206,11 @@ unfoldable pub exec_offset : List ℕ → ℕ → ℕ
 exec_offset s line = offset_in (get_elem? (lines_in (checked s)) line)
 
 -- the name by its place in the text: that of the line, where it is not refused
-pub record NamesAt (s w : List ℕ) (line place number at : ℕ) (v : List ℕ) : Type 0 where
-  pub names : Names s w line (name_at s place) number at v
-  pub stands : number ≡ 0 → place ≡ exec_offset s line
+abbrev pub name_placed : List ℕ → OrRefusal ℕ → Answer
+name_placed s (Ok place) = name_given (name_at s place) 0 0
+name_placed s (Err e) = name_given [] e.number e.at
+
+pub record NamesAt (s w : List ℕ) (line : ℕ) (r : OrRefusal ℕ) (v : List ℕ) : Type 0 where
+  pub names : Answers s (called (to_name line) w [] (name_placed s r) v [])
+  pub stands : IfOk r λ place. place ≡ exec_offset s line
+  pub numbered : IfErr r λ e. 1 ≤ e.number

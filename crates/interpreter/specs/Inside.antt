@@ -1,6 +1,6 @@
 -- What an entry comes to once the text is accepted, however many words of scratch were lent past those that it takes; and with the text's own verdict.
 use Rattle.std.specs.Prelude.{ℕ, ◌<◌, ◌≤◌, ◌≡◌, refl, ◌⊎◌, List, ◌++◌, Bool, true, false, cond, leb, length, drop}
-use Rattle.std.proofs.Common.{sym, ◌∙◌, ap, subst, inl, inr, true≢false, arith, leb-true, leb-false}
+use Rattle.std.proofs.Common.{sym, ◌∙◌, ap, subst, inl, inr, true≢false, arith, leb-true, leb-false, length-append}
 use Rattle.notation.specs.Limits.{scratch_words, run_words}
 use Rattle.notation.specs.Tables.{tables, FitsTables}
 use Rattle.notation.specs.Tree.{Declaration}
@@ -8,23 +8,30 @@ use Rattle.calculus.specs.Accepted.{Checked, accepted, faulty, checked}
 use Rattle.calculus.specs.Configuration.{Config}
 use Rattle.calculus.specs.Machine.{Answer, Reply, refusal, respond, idle}
 use Rattle.calculus.specs.Program.{program_of}
-use Rattle.calculus.specs.declared.verdict.Verdict.{Verdict}
-use Rattle.calculus.specs.declared.verdict.Verdict.TheVariants as verdict
+use Rattle.std.specs.Prelude.{Ok, Err}
+use Rattle.notation.specs.Refusals.{OrRefusal}
+use Rattle.notation.specs.declared.refusal.Refusal.{Refusal}
 use Rattle.theory_safety.specs.Replies.{enough_text}
 use Rattle.read_tables.specs.Program.{program_in}
-use Rattle.check_text.specs.Texts.{words_in, TextChecked}
+use Rattle.check_text.specs.Texts.{words_in, words_length, TextChecked}
 use Rattle.check_accepted.specs.Texts.{program_is}
 use Rattle.check_accepted.specs.Verdicts.{text_refused, scratch_enough_lem, script_of_lem}
 use Rattle.interpreter.specs.Entries.{Request, called, call_as, use_of, is_read, scratch_after, HoldsRun, config_of, RunAfter, by_answer, Reached, Answers}
 use Rattle.interpreter.specs.Past.{refusal_to, refuse, is_lent, on_lent, past_run, refusal_is, reply_refused, reply_accepted, lent_short, lent_past, untouched}
 
 -- ── the scratch words, as the check leaves them
-pub scratch_is : (s w x : List ℕ) (r : Verdict) → TextChecked s w r x → x ≡ scratch_after s w
+pub scratch_is : (s w x : List ℕ) (r : OrRefusal (Unit {0})) → TextChecked s w r x → x ≡ scratch_after s w
 scratch_is s w x r t = go (leb scratch_words (length w)) refl
   where
     go : (b : Bool) → leb scratch_words (length w) ≡ b → x ≡ cond b (words_in s (checked s) ++ drop scratch_words w) w
     go true e = (t.enough (leb-true scratch_words (length w) e)).1
     go false e = (t.short (leb-false scratch_words (length w) e)).1
+
+-- an accepted text was lent the words that its tables take
+pub scratch_long : (s w x : List ℕ) (r : OrRefusal (Unit {0})) → TextChecked s w r x → r ≡ Ok tt → scratch_words ≤ length x
+scratch_long s w x r t e =
+    let l = scratch_enough_lem s w x r t e in
+    omega (arith, ap length (t.enough l).1, length-append (words_in s (checked s)) (drop scratch_words w), words_length s (checked s))
 
 -- ── a text that is accepted
 -- where refusal 18 is tested
@@ -37,6 +44,10 @@ pub record AnswersIn (s : List ℕ) (q : Request) (ws : List ℕ) (a : Answer) (
   pub stranger : Entered q ws → ¬ HoldsRun s ws → (n : ℕ) → (a ≡ (refusal idle (call_as q n (length ws)) 18 0).answer) × (vs ≡ ws)
   pub known : (Entered q ws → HoldsRun s ws) → (n : ℕ) → scratch_words ≤ n
       → (a ≡ (respond s (config_of s ws) (call_as q n (length ws))).answer) × RunAfter s q ws vs (respond s (config_of s ws) (call_as q n (length ws)))
+
+-- a refusal of every entry that reads the run
+pub record Strange (s ws : List ℕ) (e : Refusal) : Type 0 where
+  pub refuses : (q : Request) → is_read (use_of q) ≡ true → AnswersIn s q ws (refusal_to q e.number e.at) ws
 
 module _ (s : List ℕ) (ds : List Declaration) (ok : checked s ≡ accepted ds) (fits : FitsTables s) (q : Request) (ws : List ℕ) where
   abbrev C : Config
@@ -76,21 +87,21 @@ abbrev is_faulty : Checked → Bool
 is_faulty (accepted ds) = false
 is_faulty (faulty n i) = true
 
-module _ (s w x : List ℕ) (v : Verdict) (t : TextChecked s w v x) (q : Request) (ws : List ℕ) where
-  pub answers_refused : (n i : ℕ) → v ≡ verdict.Refused n i → Answers s (called q w ws (refusal_to q n i) x ws)
-  answers_refused n i e = record {
+module _ (s w x : List ℕ) (v : OrRefusal (Unit {0})) (t : TextChecked s w v x) (q : Request) (ws : List ℕ) where
+  pub answers_refused : {f : Refusal} → v ≡ Err f → Answers s (called q w ws (refusal_to q f.number f.at) x ws)
+  answers_refused {f} e = record {
     scratch = scratch_is s w x v t;
     either = inr (λ h. absurd (unreached h));
     stranger = λ h. absurd (unreached h);
     known = λ _.
-        let z = sym (reply_refused s q (config_of s ws) (length w) (length ws) n i (text_refused s w x v t n i e)) in
-        (by_answer (ap (λ (y : Reply). y.answer) z), subst (RunAfter s q ws ws) z (untouched q (config_of s ws) n i));
+        let z = sym (reply_refused s q (config_of s ws) (length w) (length ws) f.number f.at (text_refused s w x v t f.number f.at e)) in
+        (by_answer (ap (λ (y : Reply). y.answer) z), subst (RunAfter s q ws ws) z (untouched q (config_of s ws) f.number f.at));
   }
     where
-      unreached : ¬ Reached s (called q w ws (refusal_to q n i) x ws)
-      unreached h = true≢false (ap is_faulty (sym (text_refused s w x v t n i e) ∙ enough_text s h.script h.accepts (length w) h.scratch))
+      unreached : ¬ Reached s (called q w ws (refusal_to q f.number f.at) x ws)
+      unreached h = true≢false (ap is_faulty (sym (text_refused s w x v t f.number f.at e) ∙ enough_text s h.script h.accepts (length w) h.scratch))
 
-  pub answers_accepted : v ≡ verdict.Fine → {a : Answer} {vs : List ℕ} → AnswersIn s q ws a vs → Answers s (called q w ws a x vs)
+  pub answers_accepted : v ≡ (Ok tt) → {a : Answer} {vs : List ℕ} → AnswersIn s q ws a vs → Answers s (called q w ws a x vs)
   answers_accepted e {a} {vs} A = record {
     scratch = scratch_is s w x v t;
     either = go A.either;

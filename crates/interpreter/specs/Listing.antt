@@ -1,10 +1,9 @@
 -- A list laid into an array of words: it stands first, and zeros follow.
 use Rattle.std.specs.Prelude.{ℕ, zero, suc, ◌+◌, ◌<◌, ◌≤◌, ◌≡◌, refl, List, [], ◌∷◌, ◌++◌, length, get_or, set, take, replicate}
-use Rattle.std.proofs.Common.{sym, ◌∙◌, ap, subst, arith, add-one, length-set, take_all, take-suc, take-suc-set, get_or-set_other}
+use Rattle.std.proofs.Common.{sym, ◌∙◌, ap, arith, add-one, length-set, take_all, take-suc, take-suc-set, get_or-set_other}
 use Rattle.std.proofs.lemmas.List.{length-replicate}
 use Rattle.calculus.specs.Machine.{Answer}
-use Rattle.interpreter.specs.Entries.{Request, called, Answers, Lists}
-use Rattle.interpreter.specs.Past.{refusal_to}
+use Rattle.interpreter.specs.Entries.{Request}
 use Rattle.interpreter.specs.Inside.{AnswersIn}
 
 pub record Listed (words l : List ℕ) : Type 0 where
@@ -43,14 +42,6 @@ module _ {room : ℕ} (l words : List ℕ) (k : ℕ) (a : Listing room l words k
   }
 
 -- ── an entry that lists, of an accepted text
-pub record ListsIn (s ws : List ℕ) (q : Request) (a : Answer) (count : ℕ) (words : List ℕ) : Type 0 where
+pub record ListsIn (s ws : List ℕ) (q : Request) (a : Answer) (Rest : Type 0) : Type 0 where
   pub answers : AnswersIn s q ws a ws
-  pub rest : (k : ℕ) → count ≤ k → get_or words k 0 ≡ 0
-
--- refused, it lists nothing
-module _ {s ws : List ℕ} (q : Request) (n at : ℕ) {a : Answer} {count : ℕ} {words : List ℕ} (e : refusal_to q n at ≡ a) (z : (k : ℕ) → get_or words k 0 ≡ 0) where
-  pub lists_refused : AnswersIn s q ws (refusal_to q n at) ws → ListsIn s ws q a count words
-  lists_refused A = record { answers = subst (λ a. AnswersIn s q ws a ws) e A; rest = λ k h. z k }
-
-  pub text_lists_refused : {w x : List ℕ} → Answers s (called q w ws (refusal_to q n at) x ws) → Lists s w ws q a count words x
-  text_lists_refused {w} {x} A = record { answers = subst (λ a. Answers s (called q w ws a x ws)) e A; rest = λ k h. z k }
+  pub rest : Rest

@@ -1,7 +1,7 @@
 -- Demand 1 of the code: every refusal bears one of the list's numbers, and leaves the run. The plain machine never gives 18.
 use Rattle.std.specs.Prelude.{ℕ, ◌≤◌, ◌≡◌, refl, ◌≢◌, ◌⊎◌, List, Bool, true, false}
 use Rattle.std.proofs.Common.{sym, ◌∙◌, ap, subst, inl, inr, arith}
-use Rattle.calculus.specs.Answers.{started_as, stepped_as, ran_on_as, reported_as, surveyed_as}
+use Rattle.calculus.specs.Answers.{started_as, stepped_as, ran_on_as, counted_as}
 use Rattle.calculus.specs.Configuration.{Config}
 use Rattle.calculus.specs.Demands.{is_refused}
 use Rattle.calculus.specs.Machine.{Call, call_start, call_step, call_run_on, call_report, call_places, call_exec_name, Answer, refusal, respond, idle}
@@ -41,7 +41,7 @@ by_reply : (s : List ℕ) (C : Config) (c : Call) {a : Answer} → a ≡ (respon
 by_reply s C c e r = subst InList (sym e) (let f = ap is_refused (sym e) ∙ r in (respond_numbered s C c f, never_14 s C c f))
 
 eighteen : (c : Call) → InList (refusal idle c 18 0).answer
-unfolding started_as stepped_as ran_on_as reported_as surveyed_as
+unfolding started_as stepped_as ran_on_as counted_as
 eighteen (call_start scratch run line) = omega arith
 eighteen (call_step scratch run place) = omega arith
 eighteen (call_run_on scratch run budget) = omega arith

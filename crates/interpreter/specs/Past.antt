@@ -1,5 +1,5 @@
 -- The plain machine's replies, by what is asked: past the refusals of the text, and past 16.
-use Rattle.std.specs.Prelude.{ℕ, ◌<◌, ◌≤◌, List, Bool, length}
+use Rattle.std.specs.Prelude.{ℕ, ◌<◌, ◌≤◌, List, Bool, length, Ok}
 use Rattle.std.proofs.Math.Path.{◌≡◌, refl}
 use Rattle.std.proofs.Common.{sym, ◌∙◌, ap, arith}
 use Rattle.std.proofs.Math.Bool.{true, false, cond}
@@ -15,12 +15,9 @@ use Rattle.calculus.specs.Machine.{Answer, started, stepped, ran_on, reported, s
 use Rattle.calculus.specs.Program.{Program, program_of}
 use Rattle.calculus.specs.Runs.{start_config, exec_of, run_on, report, places}
 use Rattle.calculus.specs.Steps.{step}
-use Rattle.calculus.specs.declared.answers.Started.TheVariants as starts
 use Rattle.calculus.specs.declared.answers.Stepped.TheVariants as steps
-use Rattle.calculus.specs.declared.answers.Reported.TheVariants as reports
-use Rattle.calculus.specs.declared.answers.Surveyed.TheVariants as surveys
 use Rattle.theory_safety.specs.Replies.{text_checked_enough, enough_text}
-use Rattle.interpreter.specs.Entries.{Request, to_start, to_step, to_run_on, to_report, to_places, to_name, call_as, RunUse, anew, read, unlent, use_of, RunAfter}
+use Rattle.interpreter.specs.Entries.{Request, to_start, to_step, to_run_on, to_report, to_places, to_name, call_as, RunUse, anew, read, unlent, use_of, is_read, RunAfter}
 
 -- a refusal as it answers what is asked
 abbrev pub refusal_to : Request → ℕ → ℕ → Answer
@@ -35,6 +32,11 @@ is_lent anew = true
 is_lent read = true
 is_lent unlent = false
 
+pub read_lent : (u : RunUse) → is_read u ≡ true → is_lent u ≡ true
+read_lent anew e = refl
+read_lent read e = refl
+read_lent unlent e = e
+
 abbrev pub on_lent : RunUse → ℕ → (ℕ → ℕ → Reply) → Reply → Reply
 on_lent anew run f y = on_run run f y
 on_lent read run f y = on_run run f y
@@ -42,14 +44,14 @@ on_lent unlent run f y = y
 
 -- the reply past 16
 abbrev pub past_run : Program → Request → Config → Reply
-past_run p (to_start line) C = on_line (exec_of p line) (refuse (to_start line) C) λ g. reply (started starts.Begun) (start_config g)
+past_run p (to_start line) C = on_line (exec_of p line) (refuse (to_start line) C) λ g. reply (started (Ok tt)) (start_config g)
 past_run p (to_step place) C =
     on_going C.halted (refuse (to_step place) C)
     (on_place (at C place) (refuse (to_step place) C)
-    (on_step (step p C place) (refuse (to_step place) C) (λ seen D. reply (stepped (steps.Carried seen)) D) (reply (stepped steps.Uncaught) (halt C))))
-past_run p (to_run_on budget) C = reply (ran_on (run_on p C budget).answer) (run_on p C budget).config
-past_run p to_report C = reply (reported (reports.Open (length (report C))) (report C)) C
-past_run p to_places C = reply (surveyed (surveys.Processes (length (places p C))) (places p C)) C
+    (on_step (step p C place) (refuse (to_step place) C) (λ seen D. reply (stepped (Ok (steps.Carried seen))) D) (reply (stepped (Ok steps.Uncaught)) (halt C))))
+past_run p (to_run_on budget) C = reply (ran_on (Ok (run_on p C budget).answer)) (run_on p C budget).config
+past_run p to_report C = reply (reported (Ok (length (report C))) (report C)) C
+past_run p to_places C = reply (surveyed (Ok (length (places p C))) (places p C)) C
 past_run p (to_name line) C = on_line (get_elem? p.execs line) (refuse (to_name line) C) λ n. reply (name_given n.name 0 0) C
 
 pub refusal_is : (C : Config) (q : Request) (n m k i : ℕ) → refusal C (call_as q n m) k i ≡ refuse q C k i

@@ -1,10 +1,9 @@
 -- Where a call's refusal is: by 2 to 15 where the text is at fault, within it; "0 for 1 and from 16 on".
-use Rattle.std.specs.Prelude.{ℕ, ◌≤◌, ◌≡◌, refl, ◌⊎◌, List, false, length}
-use Rattle.std.proofs.Common.{arith, sym, subst, inl, inr, true≢false}
+use Rattle.std.specs.Prelude.{ℕ, ◌≤◌, ◌≡◌, refl, ◌⊎◌, List, length, Ok}
+use Rattle.std.proofs.Common.{arith, sym, subst, inl, inr}
 use Rattle.notation.specs.Limits.{text_limit}
 use Rattle.calculus.specs.Accepted.{faulty, checked}
-use Rattle.calculus.specs.Answers.{started_as, stepped_as, ran_on_as, reported_as, surveyed_as}
-use Rattle.calculus.specs.Demands.{is_refused}
+use Rattle.calculus.specs.Answers.{started_as, stepped_as, ran_on_as, counted_as}
 use Rattle.calculus.specs.Machine.{Answer, ran_on}
 use Rattle.calculus.specs.declared.answers.RanOn.{RanOn}
 use Rattle.calculus.specs.declared.answers.RanOn.TheVariants as runs
@@ -47,18 +46,17 @@ nowhere : (s : List ℕ) → Placed s 0 0
 nowhere s = unplaced s 0 0 (inl (omega arith)) refl
 
 given_placed : (s : List ℕ) (q : Request) → OfGiven (PlacedAnswer s) q
-unfolding started_as stepped_as ran_on_as reported_as surveyed_as
+unfolding started_as stepped_as ran_on_as counted_as
 given_placed s (to_start line) = nowhere s
 given_placed s (to_step place) = (λ seen. nowhere s, nowhere s)
 given_placed s (to_run_on budget) = ran
   where
-    ran : (a : RanOn) → is_refused (ran_on a) ≡ false → PlacedAnswer s (ran_on a)
-    ran (runs.Shown seen t) e = nowhere s
-    ran (runs.Done t) e = nowhere s
-    ran (runs.Full t) e = nowhere s
-    ran (runs.Stopped t) e = nowhere s
-    ran (runs.Uncaught t) e = nowhere s
-    ran (runs.Refused n i) e = absurd (true≢false e)
+    ran : (a : RanOn) → PlacedAnswer s (ran_on (Ok a))
+    ran (runs.Shown seen t) = nowhere s
+    ran (runs.Done t) = nowhere s
+    ran (runs.Full t) = nowhere s
+    ran (runs.Stopped t) = nowhere s
+    ran (runs.Uncaught t) = nowhere s
 given_placed s to_report = λ l. nowhere s
 given_placed s to_places = λ l. nowhere s
 given_placed s (to_name line) = λ part. nowhere s

@@ -1,42 +1,32 @@
 -- The numbers of a report.
-use Rattle.std.specs.Prelude.{ℕ, zero, suc, ◌+◌, ◌<◌, ◌≤◌, ◌≡◌, refl, List, [], ◌∷◌, map, length, get_or, set, take}
+use Rattle.std.specs.Prelude.{ℕ, zero, suc, ◌+◌, ◌<◌, ◌≤◌, ◌≡◌, refl, List, [], ◌∷◌, map, length, get_or, set, take, Ok, IfOk}
 use Rattle.std.proofs.Common.{sym, ◌∙◌, ap, arith}
 use Rattle.std.proofs.Math.Option.{some, none-ne-some, some-injective}
 use Rattle.std.proofs.Math.ListN.{get_elem?}
 use Rattle.std.proofs.lemmas.List.{length-map}
+use Rattle.notation.specs.Refusals.{OrRefusal}
 use Rattle.notation.specs.Limits.{run_words, outside_numbers}
 use Rattle.notation.specs.Tables.{tables, FitsTables}
 use Rattle.notation.specs.Token.{name_at}
 use Rattle.notation.specs.Tree.{Declaration}
 use Rattle.calculus.specs.Accepted.{accepted, checked}
 use Rattle.calculus.specs.Configuration.{Outside}
-use Rattle.calculus.specs.Machine.{reported}
 use Rattle.calculus.specs.Runs.{report}
-use Rattle.calculus.specs.declared.answers.Reported.TheVariants.{Open, Refused}
 use Rattle.calculus.specs.declared.answers.Report.{Report}
 use Rattle.read_tables.specs.Decode.{process_in}
 use Rattle.read_tables.specs.Program.{plain_in}
 use Rattle.run_words.specs.Raw.{RawOutside, RawConfig, raw_in}
 use Rattle.run_words.specs.Decode.{decoded_outside}
-use Rattle.interpreter.specs.Entries.{to_report, HoldsRun, config_of, counted, report_answer}
-use Rattle.interpreter.specs.Past.{refusal_to}
+use Rattle.interpreter.specs.Entries.{to_report, HoldsRun, config_of, ZerosFrom, report_answer}
 use Rattle.interpreter.specs.RunningOn.{report_told}
 use Rattle.interpreter.specs.Listing.{Listed, Listing, listing_on, listing_end, ListsIn}
 
 abbrev pub numbers_of : RawConfig → List ℕ
 numbers_of C = map (λ (o : RawOutside). o.number) C.outside
 
--- a report that is refused
-pub record Refuses (n at : ℕ) (r : Report) : Type 0 where
-  pub answer : r.answer ≡ Refused n at
-  pub rest : (k : ℕ) → get_or r.numbers k 0 ≡ 0
-
 -- a report of an accepted text
-abbrev pub ReportsIn : List ℕ → List ℕ → Report → Type 0
-ReportsIn s ws r = ListsIn s ws to_report (report_answer r) (counted r.answer) r.numbers
-
-pub report_refused_as : (n at : ℕ) (r : Report) → Refuses n at r → refusal_to to_report n at ≡ report_answer r
-report_refused_as n at r f = λ j. reported (sym f.answer j) (take (counted (sym f.answer j)) r.numbers)
+abbrev pub ReportsIn : List ℕ → List ℕ → OrRefusal Report → Type 0
+ReportsIn s ws r = ListsIn s ws to_report (report_answer r) (IfOk r λ l. ZerosFrom l.open l.numbers)
 
 -- ── the numbers, one by one
 number_at : (l : List RawOutside) (k : ℕ) {o : RawOutside} → get_elem? l k ≡ some o → get_or (map (λ (o : RawOutside). o.number) l) k 0 ≡ o.number
@@ -65,7 +55,7 @@ module _ (s : List ℕ) (ds : List Declaration) (ok : checked s ≡ accepted ds)
   unfolding report
   numbers_are = numbers_decoded (raw_in ws).outside
 
-  pub report_open : run_words ≤ length ws → HoldsRun s ws → (n : ℕ) (numbers : List ℕ) → n ≡ length (raw_in ws).outside → Listed numbers (numbers_of (raw_in ws)) → ReportsIn s ws (record { answer = Open n; numbers = numbers })
+  pub report_open : run_words ≤ length ws → HoldsRun s ws → (n : ℕ) (numbers : List ℕ) → n ≡ length (raw_in ws).outside → Listed numbers (numbers_of (raw_in ws)) → ReportsIn s ws (Ok (record { «open» = n; numbers = numbers }))
   report_open wide holds n numbers e f = record {
     answers = report_told s ds ok fits ws wide holds (e ∙ sym (many (raw_in ws)) ∙ ap length numbers_are) (ap (λ m. take m numbers) (e ∙ sym (many (raw_in ws))) ∙ f.begins ∙ numbers_are);
     rest = λ k h. f.rest k (omega (arith, h, e, many (raw_in ws)));

@@ -1,10 +1,11 @@
 -- Start and the name of an exec line, of an accepted text.
-use Rattle.std.specs.Prelude.{ℕ, ◌≤◌, ◌≡◌, refl, List, [], Bool, true, false, length}
+use Rattle.std.specs.Prelude.{ℕ, ◌≤◌, ◌≡◌, refl, List, [], Bool, true, false, length, Ok}
 use Rattle.std.proofs.Common.{sym, ap, subst, arith}
 use Rattle.std.proofs.lemmas.Bool.{false≢true}
 use Rattle.std.proofs.Math.Option.{Option, some, none}
 use Rattle.std.proofs.Math.ListN.{get_elem?}
 use Rattle.notation.specs.Limits.{run_words}
+use Rattle.notation.specs.Refusals.{OrRefusal, refuses}
 use Rattle.notation.specs.Tables.{tables, FitsTables}
 use Rattle.notation.specs.Tree.{Located, Declaration}
 use Rattle.calculus.specs.Accepted.{accepted, checked}
@@ -12,8 +13,6 @@ use Rattle.calculus.specs.Machine.{started, name_given, reply, on_line}
 use Rattle.calculus.specs.Program.{Signature, Program}
 use Rattle.calculus.specs.Runs.{start_config, exec_of}
 use Rattle.calculus.specs.WellFormed.{WellFormed}
-use Rattle.calculus.specs.declared.answers.Started.{Started}
-use Rattle.calculus.specs.declared.answers.Started.TheVariants.{Begun, Refused}
 use Rattle.theory_ends.specs.Lists.{found_below}
 use Rattle.theory_preservation.specs.Accepted.{accepted_start}
 use Rattle.read_tables.specs.Program.{program_in}
@@ -24,9 +23,9 @@ use Rattle.interpreter.specs.Past.{refuse}
 use Rattle.interpreter.specs.Inside.{AnswersIn, answers_past}
 use Rattle.interpreter.specs.Runs.{leaves_run}
 
-abbrev pub started_by : Bool → Started
-started_by true = Begun
-started_by false = Refused 17 0
+abbrev pub started_by : Bool → OrRefusal (Unit {0})
+started_by true = Ok tt
+started_by false = refuses 17 0
 
 module _ (s : List ℕ) (ds : List Declaration) (ok : checked s ≡ accepted ds) (fits : FitsTables s) (line : ℕ) where
   abbrev P : Program
@@ -42,11 +41,11 @@ module _ (s : List ℕ) (ds : List Declaration) (ok : checked s ≡ accepted ds)
         go : (o : Option Signature) → exec_of P line ≡ o → BeginsBy s (tables s) ws vs b o → AnswersIn s (to_start line) ws (started (started_by b)) vs
         go none e m =
             answers_past s ds ok fits (to_start line) ws (refuse (to_start line) (config_of s ws) 17 0)
-            (ap (λ o. on_line o (refuse (to_start line) (config_of s ws)) λ g. reply (started Begun) (start_config g)) e)
+            (ap (λ o. on_line o (refuse (to_start line) (config_of s ws)) λ g. reply (started (Ok tt)) (start_config g)) e)
             (λ _. wide) (λ z. absurd (false≢true z)) (ap (λ x. started (started_by x)) m.0) (record { is = m.1 })
         go (some g) e m =
-            answers_past s ds ok fits (to_start line) ws (reply (started Begun) (start_config g))
-            (ap (λ o. on_line o (refuse (to_start line) (config_of s ws)) λ g. reply (started Begun) (start_config g)) e)
+            answers_past s ds ok fits (to_start line) ws (reply (started (Ok tt)) (start_config g))
+            (ap (λ o. on_line o (refuse (to_start line) (config_of s ws)) λ g. reply (started (Ok tt)) (start_config g)) e)
             (λ _. wide) (λ z. absurd (false≢true z)) (ap (λ x. started (started_by x)) m.0) (record { is = leaves_run s ws vs (start_config g) m.1 (formed g e) })
 
   -- ── the name of an exec line

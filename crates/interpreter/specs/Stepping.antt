@@ -1,8 +1,9 @@
 -- The step of an entry, past the test of 18: refusals 22 and 19 to 21, or what the machine's step shows and leaves.
-use Rattle.std.specs.Prelude.{ℕ, ◌<◌, ◌≤◌, ◌≡◌, refl, Bool, true, false, List, length}
+use Rattle.std.specs.Prelude.{ℕ, ◌<◌, ◌≤◌, ◌≡◌, refl, Bool, true, false, List, length, Ok}
 use Rattle.std.proofs.Common.{◌∙◌, ap, arith}
 use Rattle.std.proofs.Math.Option.{Option, some, none}
 use Rattle.notation.specs.Limits.{run_words}
+use Rattle.notation.specs.Refusals.{OrRefusal, refuses}
 use Rattle.notation.specs.Tables.{tables, FitsTables}
 use Rattle.notation.specs.Tree.{Declaration}
 use Rattle.calculus.specs.Accepted.{accepted, checked}
@@ -11,7 +12,7 @@ use Rattle.calculus.specs.Machine.{stepped, Reply, reply, on_going, on_place, on
 use Rattle.calculus.specs.Program.{Program}
 use Rattle.calculus.specs.Steps.{Outcome, carried, uncaught, not_open, lacking, step}
 use Rattle.calculus.specs.declared.answers.Stepped.{Stepped}
-use Rattle.calculus.specs.declared.answers.Stepped.TheVariants.{Carried, Uncaught, Refused}
+use Rattle.calculus.specs.declared.answers.Stepped.TheVariants.{Carried, Uncaught}
 use Rattle.theory_ends.specs.Lists.{none_past, found_below}
 use Rattle.theory_preservation.specs.Preserved.{preserved, halts_preserves}
 use Rattle.theory_reductions.specs.StepIff.{halts_iff}
@@ -28,11 +29,11 @@ use Rattle.interpreter.specs.Inside.{AnswersIn, answers_past}
 use Rattle.interpreter.specs.Runs.{leaves_run}
 
 -- what a step's outcome is as an answer
-abbrev pub stepped_by : OutcomeWords → Stepped
-stepped_by (words.Carried seen) = Carried seen
-stepped_by words.Uncaught = Uncaught
-stepped_by words.NotOpen = Refused 20 0
-stepped_by words.Lacking = Refused 21 0
+abbrev pub stepped_by : OutcomeWords → OrRefusal Stepped
+stepped_by (words.Carried seen) = Ok (Carried seen)
+stepped_by words.Uncaught = Ok Uncaught
+stepped_by words.NotOpen = refuses 20 0
+stepped_by words.Lacking = refuses 21 0
 
 module _ (s : List ℕ) (ds : List Declaration) (ok : checked s ≡ accepted ds) (fits : FitsTables s) (ws : List ℕ) (place : ℕ) where
   abbrev P : Program
@@ -43,7 +44,7 @@ module _ (s : List ℕ) (ds : List Declaration) (ok : checked s ≡ accepted ds)
 
   -- the plain machine's reply, by the outcome and by whether a process is there
   abbrev by_outcome : Outcome → Reply
-  by_outcome o = on_step o (refuse (to_step place) C) (λ seen D. reply (stepped (Carried seen)) D) (reply (stepped Uncaught) (halt C))
+  by_outcome o = on_step o (refuse (to_step place) C) (λ seen D. reply (stepped (Ok (Carried seen))) D) (reply (stepped (Ok Uncaught)) (halt C))
 
   abbrev by_place : Option Process → Reply
   by_place q = on_place q (refuse (to_step place) C) (by_outcome (step P C place))
@@ -53,13 +54,13 @@ module _ (s : List ℕ) (ds : List Declaration) (ok : checked s ≡ accepted ds)
   by_halt b = on_going b (refuse (to_step place) C) (by_place (at C place))
 
   module _ (wide : run_words ≤ length ws) (holds : HoldsRun s ws) where
-    pub step_halted : C.halted ≡ true → AnswersIn s (to_step place) ws (stepped (Refused 22 0)) ws
+    pub step_halted : C.halted ≡ true → AnswersIn s (to_step place) ws (stepped (refuses 22 0)) ws
     step_halted h = answers_past s ds ok fits (to_step place) ws (refuse (to_step place) C 22 0) (ap by_halt h) (λ _. wide) (λ _. holds) refl (record { is = refl })
 
-    pub step_nobody : C.halted ≡ false → length (raw_in ws).processes ≤ place → AnswersIn s (to_step place) ws (stepped (Refused 19 0)) ws
+    pub step_nobody : C.halted ≡ false → length (raw_in ws).processes ≤ place → AnswersIn s (to_step place) ws (stepped (refuses 19 0)) ws
     step_nobody g l = go (at C place) refl
       where
-        go : (o : Option Process) → at C place ≡ o → AnswersIn s (to_step place) ws (stepped (Refused 19 0)) ws
+        go : (o : Option Process) → at C place ≡ o → AnswersIn s (to_step place) ws (stepped (refuses 19 0)) ws
         go none e = answers_past s ds ok fits (to_step place) ws (refuse (to_step place) C 19 0) (ap by_halt g ∙ ap by_place e) (λ _. wide) (λ _. holds) refl (record { is = refl })
         go (some q) e = absurd (omega (arith, found_below C.processes place e, places_in s (tables s) ws))
 

@@ -1,10 +1,11 @@
 -- What the step at each place is, for an entry that is lent a run.
 use Prim.Native.Nat.{ℕ, zero, suc, ◌+◌, ◌<◌, ◌≤◌}
-use Rattle.std.specs.Prelude.{◌≡◌, length, get_or, set, take}
+use Rattle.std.specs.Prelude.{◌≡◌, length, get_or, set, take, Ok, IfOk}
 use Rattle.std.proofs.Math.Path.{refl, ap}
 use Rattle.std.proofs.Common.{sym, ◌∙◌}
 use mathlib.Core.List.{List, [], ◌∷◌}
 use native.Mathlib.Omega.{arith}
+use Rattle.notation.specs.Refusals.{OrRefusal}
 use Rattle.notation.specs.Limits.{run_words, process_places}
 use Rattle.notation.specs.Tables.{tables, FitsTables}
 use Rattle.notation.specs.Tree.{Declaration}
@@ -14,28 +15,19 @@ use Rattle.calculus.specs.Machine.{surveyed}
 use Rattle.calculus.specs.Program.{Program}
 use Rattle.calculus.specs.Runs.{openness, openness_from, places}
 use Rattle.calculus.specs.Steps.{step}
-use Rattle.calculus.specs.declared.answers.Surveyed.TheVariants.{Processes, Refused}
 use Rattle.calculus.specs.declared.answers.Places.{Places}
 use Rattle.read_tables.specs.Program.{program_in}
 use Rattle.run_words.specs.Raw.{raw_in}
 use Rattle.run_alone.specs.Run.{config_in}
 use Rattle.run_alone.specs.Changes.{places_in}
-use Rattle.interpreter.specs.Entries.{to_places, HoldsRun, config_of, places_counted, places_answer}
-use Rattle.interpreter.specs.Past.{refusal_to, past_run}
+use Rattle.interpreter.specs.Entries.{to_places, HoldsRun, config_of, ZerosFrom, places_answer}
+use Rattle.interpreter.specs.Past.{past_run}
 use Rattle.interpreter.specs.Inside.{answers_past}
 use Rattle.interpreter.specs.Listing.{Listed, Listing, listing_on, listing_end, ListsIn}
 
--- a survey that is refused
-pub record NoPlaces (n at : ℕ) (r : Places) : Type 0 where
-  pub answer : r.answer ≡ Refused n at
-  pub rest : (k : ℕ) → get_or r.steps k 0 ≡ 0
-
 -- a survey of an accepted text
-abbrev pub SurveysIn : List ℕ → List ℕ → Places → Type 0
-SurveysIn s ws r = ListsIn s ws to_places (places_answer r) (places_counted r.answer) r.steps
-
-pub survey_refused_as : (n at : ℕ) (r : Places) → NoPlaces n at r → refusal_to to_places n at ≡ places_answer r
-survey_refused_as n at r f = λ j. surveyed (sym f.answer j) (take (places_counted (sym f.answer j)) r.steps)
+abbrev pub SurveysIn : List ℕ → List ℕ → OrRefusal Places → Type 0
+SurveysIn s ws r = ListsIn s ws to_places (places_answer r) (IfOk r λ l. ZerosFrom l.processes l.steps)
 
 -- ── the places, one by one
 module _ (p : Program) (C : Config) where
@@ -80,12 +72,12 @@ module _ (s : List ℕ) (ds : List Declaration) (ok : checked s ≡ accepted ds)
   abbrev all : List ℕ
   all = places (program_in s (tables s)) (config_of s ws)
 
-  pub survey_told : run_words ≤ length ws → HoldsRun s ws → (n : ℕ) (steps : List ℕ) → n ≡ length (raw_in ws).processes → Listed steps all → SurveysIn s ws (record { answer = Processes n; steps = steps })
+  pub survey_told : run_words ≤ length ws → HoldsRun s ws → (n : ℕ) (steps : List ℕ) → n ≡ length (raw_in ws).processes → Listed steps all → SurveysIn s ws (Ok (record { processes = n; steps = steps }))
   survey_told wide holds n steps e f =
       let m : n ≡ length all = e ∙ sym (all_places s (tables s) ws) in
       record {
         answers = answers_past s ds ok fits to_places ws (past_run (program_in s (tables s)) to_places (config_of s ws)) refl (λ _. wide) (λ _. holds)
-            (λ j. surveyed (Processes (m j)) ((ap (λ c. take c steps) m ∙ f.begins) j))
+            (λ j. surveyed (Ok (m j)) ((ap (λ c. take c steps) m ∙ f.begins) j))
             (record { is = record { holds = holds; is = refl; past = refl; long = refl } });
         rest = λ k h. f.rest k (omega (arith, h, m));
       }

@@ -1,21 +1,17 @@
 -- The laws of the entries over the words w that hold an accepted text's tables, as the code has them.
-use Rattle.std.specs.Prelude.{ℕ, ◌<◌, ◌≤◌, ◌≡◌, refl, List, [], Bool, true, false, length}
+use Rattle.std.specs.Prelude.{ℕ, ◌<◌, ◌≤◌, ◌≡◌, List, [], Bool, true, false, length, Ok}
 use Rattle.std.proofs.Common.{sym, subst}
 use Rattle.std.proofs.Math.Option.{some}
 use Rattle.std.proofs.Math.ListN.{get_elem?}
 use Rattle.notation.specs.Limits.{run_words}
+use Rattle.notation.specs.Refusals.{OrRefusal, refusal, refuses}
 use Rattle.notation.specs.Tree.{Located}
 use Rattle.calculus.specs.Machine.{started, stepped, ran_on, name_given}
 use Rattle.calculus.specs.Runs.{exec_of, run_on, places}
 use Rattle.calculus.specs.Steps.{step}
 use Rattle.calculus.specs.WellFormed.{WellFormed}
 use Rattle.calculus.specs.declared.answers.RanOn.{RanOn}
-use Rattle.calculus.specs.declared.answers.Reported.TheVariants as reports
-use Rattle.calculus.specs.declared.answers.Report.{Report}
-use Rattle.calculus.specs.declared.answers.Surveyed.TheVariants as surveys
-use Rattle.calculus.specs.declared.answers.Places.{Places}
 use Rattle.calculus.specs.declared.answers.Stepped.{Stepped}
-use Rattle.calculus.specs.declared.answers.Stepped.TheVariants as steps
 use Rattle.read_tables.specs.Program.{program_in}
 use Rattle.run_words.specs.Raw.{raw_in}
 use Rattle.run_words.specs.Decode.{is_halted}
@@ -26,18 +22,18 @@ use Rattle.run_steps.specs.Dispatch.{SmallSignatures, small_signatures}
 use Rattle.run_steps.specs.Starting.{Begins}
 use Rattle.run_wellformed.specs.Formed.{Formed}
 use Rattle.check_accepted.specs.Texts.{TextIn, over, under, tables_in, everywhere_in, bodies_in}
-use Rattle.interpreter.specs.Entries.{Request, to_start, to_step, to_run_on, to_report, to_places, to_name, use_of, is_read, HoldsRun}
-use Rattle.interpreter.specs.Past.{refusal_to, is_lent}
-use Rattle.interpreter.specs.Inside.{AnswersIn, answers_short, answers_stranger}
+use Rattle.interpreter.specs.Entries.{Request, to_start, to_step, to_run_on, to_name, use_of, HoldsRun}
+use Rattle.interpreter.specs.Past.{refusal_to, is_lent, read_lent}
+use Rattle.interpreter.specs.Inside.{AnswersIn, Strange, answers_short, answers_stranger}
 use Rattle.interpreter.specs.Runs as slices
 use Rattle.interpreter.specs.Stepping as stepping
 use Rattle.interpreter.specs.Stepping.{stepped_by}
 use Rattle.interpreter.specs.RunningOn as running
 use Rattle.interpreter.specs.Reporting as reporting
-use Rattle.interpreter.specs.Reporting.{Refuses, numbers_of, ReportsIn, report_refused_as}
-use Rattle.interpreter.specs.Listing.{Listed, lists_refused}
+use Rattle.interpreter.specs.Reporting.{numbers_of, ReportsIn}
+use Rattle.interpreter.specs.Listing.{Listed}
 use Rattle.interpreter.specs.Surveying as surveying
-use Rattle.interpreter.specs.Surveying.{NoPlaces, SurveysIn, survey_refused_as}
+use Rattle.interpreter.specs.Surveying.{SurveysIn}
 use Rattle.interpreter.specs.Starting as starting
 use Rattle.interpreter.specs.Starting.{started_by}
 
@@ -59,12 +55,14 @@ module _ {s w : List ℕ} (t : TextIn s w) where
   well_formed_in ws f = (formed_in ws f).is
 
   -- ── refusals 16 and 18
-  module _ (q : Request) {ws : List ℕ} where
-    pub too_short : is_lent (use_of q) ≡ true → length ws < run_words → AnswersIn s q ws (refusal_to q 16 0) ws
-    too_short = answers_short s t.script t.accepts t.fits q ws
+  pub too_short : (q : Request) {ws : List ℕ} → is_lent (use_of q) ≡ true → length ws < run_words → AnswersIn s q ws (refusal_to q 16 0) ws
+  too_short q {ws} = answers_short s t.script t.accepts t.fits q ws
 
-    pub stranger : is_read (use_of q) ≡ true → run_words ≤ length ws → ¬ HoldsRun s ws → AnswersIn s q ws (refusal_to q 18 0) ws
-    stranger = answers_stranger s t.script t.accepts t.fits q ws
+  pub short_strange : {ws : List ℕ} → length ws < run_words → Strange s ws (refusal 16 0)
+  short_strange l = record { refuses = λ q r. too_short q (read_lent (use_of q) r) l }
+
+  pub unknown_strange : {ws : List ℕ} → run_words ≤ length ws → ¬ HoldsRun s ws → Strange s ws (refusal 18 0)
+  unknown_strange {ws} l d = record { refuses = λ q r. answers_stranger s t.script t.accepts t.fits q ws r l d }
 
   -- ── start
   pub start_told : {ws vs : List ℕ} {line : ℕ} {b d : Bool} → run_words ≤ length ws → Begins s w ws vs b (exec_of (program_in s w) line) → b ≡ d
@@ -75,13 +73,13 @@ module _ {s w : List ℕ} (t : TextIn s w) where
 
   -- ── step
   module _ {ws : List ℕ} {place : ℕ} (l : run_words ≤ length ws) (f : HoldsRun s ws) where
-    pub step_halted : is_halted (raw_in ws).halted ≡ true → AnswersIn s (to_step place) ws (stepped (steps.Refused 22 0)) ws
+    pub step_halted : is_halted (raw_in ws).halted ≡ true → AnswersIn s (to_step place) ws (stepped (refuses 22 0)) ws
     step_halted = stepping.step_halted s t.script t.accepts t.fits ws place l f
 
-    pub step_nobody : is_halted (raw_in ws).halted ≡ false → length (raw_in ws).processes ≤ place → AnswersIn s (to_step place) ws (stepped (steps.Refused 19 0)) ws
+    pub step_nobody : is_halted (raw_in ws).halted ≡ false → length (raw_in ws).processes ≤ place → AnswersIn s (to_step place) ws (stepped (refuses 19 0)) ws
     step_nobody = stepping.step_nobody s t.script t.accepts t.fits ws place l f
 
-    pub step_told : {vs : List ℕ} {a : OutcomeWords} {r : Stepped} → is_halted (raw_in ws).halted ≡ false → place < length (raw_in ws).processes → Carries s w ws vs a (step (program_in s w) (config_in s w ws) place) → r ≡ stepped_by a
+    pub step_told : {vs : List ℕ} {a : OutcomeWords} {r : OrRefusal Stepped} → is_halted (raw_in ws).halted ≡ false → place < length (raw_in ws).processes → Carries s w ws vs a (step (program_in s w) (config_in s w ws) place) → r ≡ stepped_by a
         → AnswersIn s (to_step place) ws (stepped r) vs
     step_told {vs} {a} g h c e =
         subst (λ x. AnswersIn s (to_step place) ws (stepped x) vs) (sym e)
@@ -89,33 +87,19 @@ module _ {s w : List ℕ} (t : TextIn s w) where
 
   -- ── run-on
   pub run_told : {ws vs : List ℕ} {budget : ℕ} {r : RanOn} → run_words ≤ length ws → HoldsRun s ws
-      → machine.RunsOn s w ws vs r (run_on (program_in s w) (config_in s w ws) budget) → AnswersIn s (to_run_on budget) ws (ran_on r) vs
+      → machine.RunsOn s w ws vs r (run_on (program_in s w) (config_in s w ws) budget) → AnswersIn s (to_run_on budget) ws (ran_on (Ok r)) vs
   run_told {ws} {vs} {budget} {r} l f m =
       running.run_told s t.script t.accepts t.fits ws l f budget (under t (λ x. machine.RunsOn s x ws vs r (run_on (program_in s x) (config_in s x ws) budget)) m)
 
   -- ── report
-  module _ {ws : List ℕ} where
-    pub report_short : {r : Report} → length ws < run_words → Refuses 16 0 r → ReportsIn s ws r
-    report_short {r} l f = lists_refused to_report 16 0 (report_refused_as 16 0 r f) f.rest (too_short to_report refl l)
-
-    pub report_stranger : {r : Report} → run_words ≤ length ws → ¬ HoldsRun s ws → Refuses 18 0 r → ReportsIn s ws r
-    report_stranger {r} l d f = lists_refused to_report 18 0 (report_refused_as 18 0 r f) f.rest (stranger to_report refl l d)
-
-    pub report_open : {n : ℕ} {numbers : List ℕ} → run_words ≤ length ws → HoldsRun s ws → n ≡ length (raw_in ws).outside → Listed numbers (numbers_of (raw_in ws))
-        → ReportsIn s ws (record { answer = reports.Open n; numbers = numbers })
-    report_open {n} {numbers} l h e f = reporting.report_open s t.script t.accepts t.fits ws l h n numbers e f
+  pub report_open : {ws : List ℕ} {n : ℕ} {numbers : List ℕ} → run_words ≤ length ws → HoldsRun s ws → n ≡ length (raw_in ws).outside → Listed numbers (numbers_of (raw_in ws))
+      → ReportsIn s ws (Ok (record { «open» = n; numbers = numbers }))
+  report_open {ws} {n} {numbers} l h e f = reporting.report_open s t.script t.accepts t.fits ws l h n numbers e f
 
   -- ── places
-  module _ {ws : List ℕ} where
-    pub survey_short : {r : Places} → length ws < run_words → NoPlaces 16 0 r → SurveysIn s ws r
-    survey_short {r} l f = lists_refused to_places 16 0 (survey_refused_as 16 0 r f) f.rest (too_short to_places refl l)
-
-    pub survey_stranger : {r : Places} → run_words ≤ length ws → ¬ HoldsRun s ws → NoPlaces 18 0 r → SurveysIn s ws r
-    survey_stranger {r} l d f = lists_refused to_places 18 0 (survey_refused_as 18 0 r f) f.rest (stranger to_places refl l d)
-
-    pub survey_told : {n : ℕ} {steps : List ℕ} → run_words ≤ length ws → HoldsRun s ws → n ≡ length (raw_in ws).processes → Listed steps (places (program_in s w) (config_in s w ws))
-        → SurveysIn s ws (record { answer = surveys.Processes n; steps = steps })
-    survey_told {n} {steps} l h e f = surveying.survey_told s t.script t.accepts t.fits ws l h n steps e (under t (λ x. Listed steps (places (program_in s x) (config_in s x ws))) f)
+  pub survey_told : {ws : List ℕ} {n : ℕ} {steps : List ℕ} → run_words ≤ length ws → HoldsRun s ws → n ≡ length (raw_in ws).processes → Listed steps (places (program_in s w) (config_in s w ws))
+      → SurveysIn s ws (Ok (record { processes = n; steps = steps }))
+  survey_told {ws} {n} {steps} l h e f = surveying.survey_told s t.script t.accepts t.fits ws l h n steps e (under t (λ x. Listed steps (places (program_in s x) (config_in s x ws))) f)
 
   -- ── the name of an exec line
   pub name_none : {line : ℕ} → length (program_in s w).execs ≤ line → AnswersIn s (to_name line) [] (name_given [] 17 0) []

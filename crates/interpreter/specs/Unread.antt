@@ -1,5 +1,5 @@
 -- Replies that do not depend on the configuration: where the run is too short, of a start, and of an exec's name.
-use Rattle.std.specs.Prelude.{ℕ, ◌<◌, ◌≡◌, refl, List, Bool, true, false, cond, leb}
+use Rattle.std.specs.Prelude.{ℕ, ◌<◌, ◌≡◌, refl, List, Bool, true, false, cond, leb, Ok}
 use Rattle.std.proofs.Common.{sym, ◌∙◌, ap, true≢false}
 use Rattle.std.proofs.Math.Option.{Option, some, none}
 use Rattle.std.proofs.Math.ListN.{get_elem?}
@@ -11,7 +11,6 @@ use Rattle.calculus.specs.Demands.{is_refused}
 use Rattle.calculus.specs.Machine.{call_start, started, name_given, Reply, reply, text_checked, on_program, on_line, respond}
 use Rattle.calculus.specs.Program.{Signature, Program, program_of}
 use Rattle.calculus.specs.Runs.{start_config, exec_of}
-use Rattle.calculus.specs.declared.answers.Started.TheVariants as starts
 use Rattle.interpreter.specs.Entries.{Request, to_start, to_step, to_run_on, to_report, to_places, to_name, call_as, use_of}
 use Rattle.interpreter.specs.Past.{refuse, is_lent, on_lent, past_run, reply_by, lent_short}
 
@@ -60,7 +59,7 @@ pub record BegunAnew (m : ℕ) (x y : Reply) : Type 0 where
 
 module _ (s : List ℕ) (n m line : ℕ) (C D : Config) where
   abbrev begun_by : Config → Bool → Option Signature → Reply
-  begun_by E b o = cond b (on_line o (refuse (to_start line) E) λ g. reply (started starts.Begun) (start_config g)) (refuse (to_start line) E 16 0)
+  begun_by E b o = cond b (on_line o (refuse (to_start line) E) λ g. reply (started (Ok tt)) (start_config g)) (refuse (to_start line) E 16 0)
 
   anew_by : (b : Bool) (o : Option Signature) → leb run_words m ≡ b → BegunAnew m (begun_by C b o) (begun_by D b o)
   anew_by true none w = record { answer = refl; config = λ e. absurd (true≢false e); wide = λ e. absurd (true≢false e) }

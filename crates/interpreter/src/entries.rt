@@ -4,67 +4,62 @@ ghost use Rattle.interpreter.specs.Entries.{Starts, Steps, RunsOn, Reports, Surv
 
 use crate::inside::{run_on_in, start_in, step_in};
 use crate::names::exec_place;
-use crate::places::{no_places, places_in};
-use crate::reports::{no_report, report_in};
-use calculus::answers::{Places, RanOn, Report, Started, Stepped};
-use calculus::verdict::Verdict;
+use crate::places::places_in;
+use crate::reports::report_in;
+use calculus::answers::{Places, RanOn, Report, Stepped};
 use check_text::check::check;
+use notation::refusal::Refusal;
 use notation::script::Script;
 use notation::token::name_of;
 
 // Begins the run of an exec line anew.
-pub fn start(text: &[u8], scratch: &mut [u32], run: &mut [u32], line: u32) -> Started
+pub fn start(text: &[u8], scratch: &mut [u32], run: &mut [u32], line: u32) -> Result<(), Refusal>
     ensures { Starts text.now scratch.old run.old line result scratch.new run.new }
 {
-    let v = check(text, scratch);
-    let Verdict::Refused(n, at) = v else {
-        return start_in(text, &scratch[0..Script::SCRATCH_WORDS], run, line);
-    };
-    Started::Refused(n, at)
+    check(text, scratch)?;
+    start_in(text, &scratch[0..Script::SCRATCH_WORDS], run, line)
 }
 
 // Carries out the step at a place.
-pub fn step(text: &[u8], scratch: &mut [u32], run: &mut [u32], place: u32) -> Stepped
+pub fn step(
+    text: &[u8],
+    scratch: &mut [u32],
+    run: &mut [u32],
+    place: u32,
+) -> Result<Stepped, Refusal>
     ensures { Steps text.now scratch.old run.old place result scratch.new run.new }
 {
-    let v = check(text, scratch);
-    let Verdict::Refused(n, at) = v else {
-        return step_in(text, &scratch[0..Script::SCRATCH_WORDS], run, place);
-    };
-    Stepped::Refused(n, at)
+    check(text, scratch)?;
+    step_in(text, &scratch[0..Script::SCRATCH_WORDS], run, place)
 }
 
 // Steps until one shows something, no process is left, none can be carried out, or the budget is spent.
-pub fn run_on(text: &[u8], scratch: &mut [u32], run: &mut [u32], budget: u32) -> RanOn
+pub fn run_on(
+    text: &[u8],
+    scratch: &mut [u32],
+    run: &mut [u32],
+    budget: u32,
+) -> Result<RanOn, Refusal>
     ensures { RunsOn text.now scratch.old run.old budget result scratch.new run.new }
 {
-    let v = check(text, scratch);
-    let Verdict::Refused(n, at) = v else {
-        return run_on_in(text, &scratch[0..Script::SCRATCH_WORDS], run, budget);
-    };
-    RanOn::Refused(n, at)
+    check(text, scratch)?;
+    run_on_in(text, &scratch[0..Script::SCRATCH_WORDS], run, budget)
 }
 
 // The numbers of the outside channels still open, rising.
-pub fn report(text: &[u8], scratch: &mut [u32], run: &[u32]) -> Report
+pub fn report(text: &[u8], scratch: &mut [u32], run: &[u32]) -> Result<Report, Refusal>
     ensures { Reports text.now scratch.old run.now result scratch.new }
 {
-    let v = check(text, scratch);
-    let Verdict::Refused(n, at) = v else {
-        return report_in(text, &scratch[0..Script::SCRATCH_WORDS], run);
-    };
-    no_report(n, at)
+    check(text, scratch)?;
+    report_in(text, &scratch[0..Script::SCRATCH_WORDS], run)
 }
 
 // How many processes there are, and whether the step at each of their places is open.
-pub fn places(text: &[u8], scratch: &mut [u32], run: &[u32]) -> Places
+pub fn places(text: &[u8], scratch: &mut [u32], run: &[u32]) -> Result<Places, Refusal>
     ensures { Surveys text.now scratch.old run.now result scratch.new }
 {
-    let v = check(text, scratch);
-    let Verdict::Refused(n, at) = v else {
-        return places_in(text, &scratch[0..Script::SCRATCH_WORDS], run);
-    };
-    no_places(n, at)
+    check(text, scratch)?;
+    places_in(text, &scratch[0..Script::SCRATCH_WORDS], run)
 }
 
 // The name of an exec line's process, as the part of the text that holds it: empty where it is refused, and the refusal stands in the lent numbers.
@@ -78,5 +73,16 @@ pub fn exec_name<'a>(
     ensures names { Names text.now scratch.old line result.now number.new at.new scratch.new }
     ensures result_in_bounds { length result.now ≤ length text.now }
 {
-    name_of(text, exec_place(text, scratch, line, number, at))
+    match exec_place(text, scratch, line) {
+        Ok(place) => {
+            *number = 0;
+            *at = 0;
+            name_of(text, place)
+        }
+        Err(refusal) => {
+            *number = refusal.number;
+            *at = refusal.at;
+            &text[0..0]
+        }
+    }
 }

@@ -4,11 +4,12 @@ ghost use Rattle.notation.specs.Limits.{run_words};
 ghost use Rattle.run_words.specs.Raw.{raw_in, Bounded};
 ghost use Rattle.check_accepted.specs.Texts.{TextIn};
 ghost use Rattle.interpreter.specs.Listing.{Listed};
-ghost use Rattle.interpreter.specs.Reporting.{numbers_of, ReportsIn, Refuses};
+ghost use Rattle.interpreter.specs.Reporting.{numbers_of, ReportsIn};
 
-use calculus::answers::{Report, Reported};
+use crate::inside::holds_run;
+use calculus::answers::Report;
+use notation::refusal::Refusal;
 use notation::script::Script;
-use run_wellformed::well_formed;
 use run_words::outside::{outside_at, outside_count};
 
 // The numbers, in the order of the run, in which they rise; zeros after them.
@@ -18,40 +19,22 @@ fn list_numbers(run: &[u32]) -> [u32; Script::OUTSIDE_NUMBERS]
 {
     let mut numbers = [0u32; Script::OUTSIDE_NUMBERS];
     let n = outside_count(run);
-    let mut k: usize = 0;
-    while k < n {
+    for k in 0..n {
         let o = outside_at(run, k);
         numbers[k] = o.number;
-        k += 1;
     }
     numbers
 }
 
-// A report that is refused lists nothing.
-pub(crate) fn no_report(n: u32, at: usize) -> Report
-    ensures { Refuses n at result }
-{
-    let numbers = [0u32; Script::OUTSIDE_NUMBERS];
-    Report {
-        answer: Reported::Refused(n, at),
-        numbers,
-    }
-}
-
-pub(crate) fn report_in(text: &[u8], tables: &[u32], run: &[u32]) -> Report
+pub(crate) fn report_in(text: &[u8], tables: &[u32], run: &[u32]) -> Result<Report, Refusal>
     requires { TextIn text.now tables.now }
     ensures { ReportsIn text.now run.now result }
 {
-    if run.len() < Script::RUN_WORDS {
-        return no_report(16, 0);
-    }
-    if well_formed(text, tables, run) {
-        let numbers = list_numbers(run);
-        let n = outside_count(run);
-        return Report {
-            answer: Reported::Open(n as u32),
-            numbers,
-        };
-    }
-    no_report(18, 0)
+    holds_run(text, tables, run)?;
+    let numbers = list_numbers(run);
+    let n = outside_count(run);
+    Ok(Report {
+        open: n as u32,
+        numbers,
+    })
 }

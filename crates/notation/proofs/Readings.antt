@@ -8,14 +8,13 @@ use mathlib.Core.Bool.{Bool, true, false, ◌||◌}
 use lib.ListN.{length}
 use lib.Dec.{eqb}
 use borrow.Author.Tests.{eqb-true}
+use Rattle.std.specs.Prelude.{Ok, Err}
 use Rattle.notation.specs.Token.{token_at, k_then, k_round_open, k_round_close, k_label, k_fault}
 use Rattle.notation.specs.Onward.{width}
-use Rattle.notation.specs.Reader.{Result, got, refused, on_token, part, lastly, choose, fault, expect, misfit, limited, opening, type_term, process_term, closed_taken, onward_from, then_token}
+use Rattle.notation.specs.Reader.{Result, Taken, got, refused, on_token, part, lastly, choose, fault, expect, misfit, limited, opening, type_term, process_term, closed_taken, onward_from, then_token}
 use Rattle.notation.specs.Types.{label_term}
 use Rattle.notation.specs.Processes.{unit_taken}
 use Rattle.notation.specs.declared.reading.Cursor.{Cursor}
-use Rattle.notation.specs.declared.reading.Taken.{Taken}
-use Rattle.notation.specs.declared.reading.Taken.TheVariants.{At, Refused}
 use Rattle.notation.proofs.Tokens.{cond_both, token_onward}
 
 -- the numbers by which a reading is refused, and where
@@ -31,8 +30,8 @@ abbrev pub Past : List ℕ → Cursor → ℕ → Cursor → Type 0
 Past s c i d = (c.at + 1 ≤ d.at) × (d.at ≤ length s) × (i < length s) × ((token_at s c.at).start ≡ i)
 
 abbrev TakesOf : List ℕ → Cursor → Taken → Type 0
-TakesOf s c (At i d) = Past s c i d
-TakesOf s c (Refused n i) = ReadRefusal s n i
+TakesOf s c (Ok (i, d)) = Past s c i d
+TakesOf s c (Err e) = ReadRefusal s e.number e.at
 
 pub record Takes (s : List ℕ) (c : Cursor) (t : Taken) : Type 0 where
   pub holds : TakesOf s c t
@@ -57,8 +56,8 @@ module _ {A : Type 0} {s : List ℕ} {low : ℕ} {P : A → Type 0} where
   reads_no n i h = record { holds = h }
 
   pub reads_take : {c : Cursor} {t : Taken} (f : ℕ → Cursor → Result A) → Takes s c t → ((i : ℕ) (d : Cursor) → Past s c i d → Reads s low P (f i d)) → Reads s low P (on_token t f)
-  reads_take {t = At i d} f h g = g i d h.holds
-  reads_take {t = Refused n i} f h g = reads_no n i h.holds
+  reads_take {t = Ok (i, d)} f h g = g i d h.holds
+  reads_take {t = Err e} f h g = reads_no e.number e.at h.holds
 
   -- a part, with the equation that it is what was read
   pub reads_part_is : {B : Type 0} {from : ℕ} {Q : B → Type 0} (r : Result B) (f : B → Cursor → Result A) → Reads s from Q r → ((b : B) (d : Cursor) → r ≡ got b d → Ahead s from d → Q b → Reads s low P (f b d)) → Reads s low P (part r f)
@@ -95,9 +94,9 @@ width_some : (k : ℕ) → 1 ≤ width k
 width_some k = cond_both (λ w. 1 ≤ w) (eqb k k_then || eqb k k_label) 2 1 (λ _. omega arith) (λ _. omega arith)
 
 pub takes_limited : {s : List ℕ} {c : Cursor} (t : Taken) (fits : Cursor → Bool) (more : Cursor → Cursor) → ((d : Cursor) → (more d).at ≡ d.at) → Takes s c t → Takes s c (limited t fits more)
-takes_limited {s = s} {c} (At i d) fits more e h =
+takes_limited {s = s} {c} (Ok (i, d)) fits more e h =
     cond_both (Takes s c) (fits d) _ _ (λ _. let g = h.holds in record { holds = omega (arith, e d) }) (λ _. let g = h.holds in record { holds = omega arith })
-takes_limited (Refused n i) fits more e h = record { holds = h.holds }
+takes_limited (Err z) fits more e h = record { holds = h.holds }
 
 module _ (s : List ℕ) (k : ℕ) (c : Cursor) (l : k < k_fault) where
   pub takes_expect : Takes s c (expect s k c)
@@ -129,16 +128,16 @@ takes_label_lem s n c = takes_limited (expect s k_label c) _ _ (λ _. refl) (tak
 
 -- two tokens in a row
 takes_onward : {s : List ℕ} {c d : Cursor} (i : ℕ) (t : Taken) → Past s c i d → Takes s d t → Takes s c (onward_from i t)
-takes_onward i (At j e) l h = let g = h.holds in record { holds = omega arith }
-takes_onward i (Refused n j) l h = record { holds = h.holds }
+takes_onward i (Ok (j, e)) l h = let g = h.holds in record { holds = omega arith }
+takes_onward i (Err e) l h = record { holds = h.holds }
 
 takes_then : {s : List ℕ} {c : Cursor} (t : Taken) (f : Cursor → Taken) → Takes s c t → ((d : Cursor) → Takes s d (f d)) → Takes s c (then_token t f)
-takes_then {s = s} {c} (At i d) f h g = takes_onward {c = c} {d = d} i (f d) h.holds (g d)
-takes_then (Refused n i) f h g = record { holds = h.holds }
+takes_then {s = s} {c} (Ok (i, d)) f h g = takes_onward {c = c} {d = d} i (f d) h.holds (g d)
+takes_then (Err e) f h g = record { holds = h.holds }
 
 takes_closed : {s : List ℕ} {c : Cursor} (b : Cursor) (t : Taken) → Takes s c t → Takes s c (closed_taken b t)
-takes_closed b (At i d) h = record { holds = h.holds }
-takes_closed b (Refused n i) h = record { holds = h.holds }
+takes_closed b (Ok (i, d)) h = record { holds = h.holds }
+takes_closed b (Err e) h = record { holds = h.holds }
 
 pub takes_unit : (s : List ℕ) (c : Cursor) → Takes s c (unit_taken s c)
 unfolding unit_taken

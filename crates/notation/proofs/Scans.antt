@@ -2,10 +2,11 @@
 use Prim.Native.Nat.{ℕ, suc, ◌+◌, ◌-◌, ◌≤◌, ◌<◌}
 use mathlib.Core.Path.{◌≡◌, refl, sym, ap, ◌∙◌}
 use mathlib.Core.List.{List, [], ◌∷◌}
-use mathlib.Core.Bool.{Bool, true, false}
+use mathlib.Core.Bool.{Bool, true, false, ◌&&◌}
 use native.Mathlib.Numerals.{add-one}
 use native.Mathlib.Omega.{arith}
 use lib.Dec.{eqb}
+use lib.Pointwise.{pointwise}
 use lib.ListN.{length, get_or, take, drop, drop_of_length-le, length-drop}
 use lib.Seq.{drop-cons, take-nil, take_all}
 use borrow.Author.Tests.{eq-eqb, ne_eqb}
@@ -28,22 +29,17 @@ module _ {A : Type 0} {p : A → Bool} {xs : List A} {at i : ℕ} where
   unfolding position
   scan_end v h = rw (drop_of_length-le xs h, position) at v.left
 
--- two lists are compared up to i, and are alike so far
-pub record Alike (xs ys : List ℕ) (i : ℕ) : Type 0 where
-  pub left : same (drop i xs) (drop i ys) ≡ same xs ys
-
-module _ {xs ys : List ℕ} {i : ℕ} where
-  pub alike_next : Alike xs ys i → i < length xs → i < length ys → get_or xs i 0 ≡ get_or ys i 0 → Alike xs ys (i + 1)
-  unfolding same
-  alike_next v h l e = record { left = rw add-one (rw (drop-cons xs i 0, drop-cons ys i 0, same, eq-eqb _ _ e) at v.left) }
-
-  pub alike_differ : Alike xs ys i → i < length xs → i < length ys → (get_or xs i 0 ≡ get_or ys i 0 → ⊥) → false ≡ same xs ys
-  unfolding same
-  alike_differ v h l e = rw (drop-cons xs i 0, drop-cons ys i 0, same, ne_eqb _ _ e) at v.left
-
-  pub alike_end : Alike xs ys i → length xs ≤ i → length ys ≤ i → true ≡ same xs ys
-  unfolding same
-  alike_end v h l = rw (drop_of_length-le xs h, drop_of_length-le ys l, same) at v.left
+-- lists are the same where their elements are
+pub same_pointwise : (xs ys : List ℕ) → pointwise eqb xs ys ≡ same xs ys
+unfolding same
+same_pointwise [] [] = refl
+same_pointwise [] (y ∷ ys) = refl
+same_pointwise (x ∷ xs) [] = refl
+same_pointwise (x ∷ xs) (y ∷ ys) = go (eqb x y) (same_pointwise xs ys)
+  where
+    go : (b : Bool) → pointwise eqb xs ys ≡ same xs ys → ◌≡◌ {A = Bool} (b && pointwise eqb xs ys) (elim b [ true ↦ same xs ys | false ↦ false ])
+    go true e = e
+    go false e = refl
 
 -- lists of different lengths differ
 pub same_length : (xs ys : List ℕ) → (length xs ≡ length ys → ⊥) → same xs ys ≡ false

@@ -16,3 +16,4 @@ pub mod Layout
 pub mod Computed
 pub mod Examples
 pub mod Brackets
+pub mod Refusals

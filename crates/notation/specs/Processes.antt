@@ -2,10 +2,9 @@
 use Rattle.std.specs.Prelude.{ℕ, zero, suc, ◌+◌, List, [], ◌∷◌, cond, eqb}
 use Rattle.notation.specs.Token.{token_at, kind_at, k_send, k_recv, k_fwd, k_call, k_cancel, k_raise, k_try, k_catch, k_name, k_label, k_round_open, k_round_close, k_square_open, k_square_close, k_colon, k_comma, k_semicolon, k_from, k_then, k_bar}
 use Rattle.notation.specs.Tree.{Located, Ty, Proc, empty, send_unit, send_channel, send_label, cancel, spawn, recv_unit, recv_channel, recv_label, fwd, call, raise, try, Branches, branch}
-use Rattle.notation.specs.Reader.{Result, got, refused, on_token, part, lastly, choose, expect, misfit, opening, process_term, closed, then_token, closed_taken, name_in, label_in}
+use Rattle.notation.specs.Reader.{Result, Taken, got, refused, on_token, part, lastly, choose, expect, misfit, opening, process_term, closed, then_token, closed_taken, name_in, label_in}
 use Rattle.notation.specs.Types.{read_type, label_term}
 use Rattle.notation.specs.declared.reading.Cursor.{Cursor}
-use Rattle.notation.specs.declared.reading.Taken.{Taken}
 use Rattle.notation.specs.declared.token.TermHead.{TermHead}
 use Rattle.notation.specs.declared.token.TermHead.TheVariants.{Send, Recv, Fwd, Call, Cancel, Raise, Try, Spawn, Empty}
 use Rattle.notation.specs.declared.token.Payload.{Payload}

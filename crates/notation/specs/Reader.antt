@@ -1,23 +1,26 @@
 -- The parts that every reading is made of: a result, a token that is wanted, and how they follow each other.
 -- A reading is described over the readings that it needs, and the knots are tied on fuel: the reading of a text gives more than the text can use.
-use Rattle.std.specs.Prelude.{ℕ, ◌+◌, List, Bool, true, false, cond, ltb, eqb}
+use Rattle.std.specs.Prelude.{ℕ, ◌+◌, List, Bool, true, false, cond, ltb, eqb, Ok, Err}
 use Rattle.notation.specs.Limits.{type_term_limit, process_term_limit, bracket_limit}
 use Rattle.notation.specs.Token.{token_at, name_at, k_fault}
 use Rattle.notation.specs.Tree.{Located}
+use Rattle.notation.specs.Refusals.{OrRefusal, refuses}
 use Rattle.notation.specs.declared.token.Token.{Token}
 use Rattle.notation.specs.declared.reading.Cursor.{Cursor}
-use Rattle.notation.specs.declared.reading.Taken.{Taken}
-use Rattle.notation.specs.declared.reading.Taken.TheVariants.{At, Refused}
 
 -- what was read and the cursor past it, or a refusal: its number and offset
 pub data Result (A : Type 0) : Type 0 where
   got : A → Cursor → Result A
   refused : ℕ → ℕ → Result A
 
+-- a token that was wanted: where it stands and the cursor past it; or a refusal
+abbrev pub Taken : Type 0
+Taken = OrRefusal (ℕ × Cursor)
+
 -- a token, then the rest
 abbrev pub on_token : {A : Type 0} → Taken → (ℕ → Cursor → Result A) → Result A
-on_token (At i c) k = k i c
-on_token (Refused n i) k = refused n i
+on_token (Ok (i, c)) k = k i c
+on_token (Err e) k = refused e.number e.at
 
 -- a part, then the rest
 abbrev pub part : {A B : Type 0} → Result A → (A → Cursor → Result B) → Result B
@@ -45,7 +48,7 @@ fault t = cond (eqb t.kind k_fault) 3 4
 unfoldable pub expect : List ℕ → ℕ → Cursor → Taken
 expect s k c =
     let t = token_at s c.at in
-    cond (eqb t.kind k) (At t.start (past c t)) (Refused (fault t) t.start)
+    cond (eqb t.kind k) (Ok (t.start, past c t)) (refuses (fault t) t.start)
 
 -- no token fits here
 unfoldable pub misfit : {A : Type 0} → List ℕ → Cursor → Result A
@@ -53,8 +56,8 @@ misfit s c = let t = token_at s c.at in refused (fault t) t.start
 
 -- A limit is tested after what is wanted, at the token that passes it: 3 or 4 before 5.
 abbrev pub limited : Taken → (Cursor → Bool) → (Cursor → Cursor) → Taken
-limited (At i c) fits more = cond (fits c) (At i (more c)) (Refused 5 i)
-limited (Refused n i) fits more = Refused n i
+limited (Ok (i, c)) fits more = cond (fits c) (Ok (i, more c)) (refuses 5 i)
+limited (Err e) fits more = Err e
 
 -- a bracket that opens
 abbrev pub may_open : Cursor → Bool
@@ -92,16 +95,16 @@ closed c d = record { at = d.at; types = d.types; terms = d.terms; depth = c.dep
 
 -- two tokens in a row: the first one's offset, past the second
 abbrev pub onward_from : ℕ → Taken → Taken
-onward_from i (At j d) = At i d
-onward_from i (Refused n j) = Refused n j
+onward_from i (Ok (j, d)) = Ok (i, d)
+onward_from i (Err e) = Err e
 
 abbrev pub then_token : Taken → (Cursor → Taken) → Taken
-then_token (At i d) f = onward_from i (f d)
-then_token (Refused n i) f = Refused n i
+then_token (Ok (i, d)) f = onward_from i (f d)
+then_token (Err e) f = Err e
 
 abbrev pub closed_taken : Cursor → Taken → Taken
-closed_taken c (At i d) = At i (closed c d)
-closed_taken c (Refused n i) = Refused n i
+closed_taken c (Ok (i, d)) = Ok (i, closed c d)
+closed_taken c (Err e) = Err e
 
 -- the name at an offset; the label whose apostrophe stands there
 abbrev pub name_in : List ℕ → ℕ → Located

@@ -3,11 +3,10 @@ use Rattle.std.specs.Prelude.{ℕ, zero, suc, ◌+◌, ◌*◌, List, [], ◌∷
 use Rattle.notation.specs.Limits.{text_limit, type_limit, process_limit, exec_limit}
 use Rattle.notation.specs.Token.{kind_at, k_type, k_proc, k_exec, k_end, k_name, k_round_open, k_round_close, k_square_open, k_square_close, k_colon, k_comma, k_equals}
 use Rattle.notation.specs.Tree.{Entry, Declaration, declare_type, declare_proc, declare_exec}
-use Rattle.notation.specs.Reader.{Result, got, refused, on_token, part, lastly, choose, expect, misfit, limited, opening, closed, name_in}
+use Rattle.notation.specs.Reader.{Result, Taken, got, refused, on_token, part, lastly, choose, expect, misfit, limited, opening, closed, name_in}
 use Rattle.notation.specs.Types.{read_type}
 use Rattle.notation.specs.Processes.{read_process}
 use Rattle.notation.specs.declared.reading.Cursor.{Cursor}
-use Rattle.notation.specs.declared.reading.Taken.{Taken}
 use Rattle.notation.specs.declared.token.DeclarationHead.{DeclarationHead}
 use Rattle.notation.specs.declared.token.DeclarationHead.TheVariants.{TypeWord, ProcWord, ExecWord, End, Other}
 

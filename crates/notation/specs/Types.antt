@@ -3,9 +3,8 @@ use Rattle.std.specs.Prelude.{ℕ, zero, suc, ◌+◌, List, Bool, cond, ◌||�
 use Rattle.notation.specs.Limits.{label_limit}
 use Rattle.notation.specs.Token.{kind_at, k_one, k_name, k_label, k_round_open, k_round_close, k_brace_open, k_brace_close, k_plus, k_with, k_colon, k_comma, k_star, k_at, k_lolli}
 use Rattle.notation.specs.Tree.{Located, Ty, unit, named, tensor, par, lolli, plus, with, Alternatives, alternative}
-use Rattle.notation.specs.Reader.{Result, got, refused, on_token, part, lastly, choose, expect, misfit, limited, opening, type_term, closed, name_in, label_in}
+use Rattle.notation.specs.Reader.{Result, Taken, got, refused, on_token, part, lastly, choose, expect, misfit, limited, opening, type_term, closed, name_in, label_in}
 use Rattle.notation.specs.declared.reading.Cursor.{Cursor}
-use Rattle.notation.specs.declared.reading.Taken.{Taken}
 use Rattle.notation.specs.declared.token.TypeHead.{TypeHead}
 use Rattle.notation.specs.declared.token.TypeHead.TheVariants.{One, Name, Round, Plus, With, Other}
 

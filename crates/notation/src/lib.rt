@@ -2,6 +2,7 @@
 
 pub mod kinds;
 pub mod reading;
+pub mod refusal;
 pub mod script;
 pub mod tables;
 pub mod token;

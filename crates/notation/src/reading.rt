@@ -7,13 +7,6 @@ pub struct Cursor {
     pub depth: usize,
 }
 
-// A token that was wanted: where it stands and the cursor past it; or the refusal's number and offset.
-#[derive(Clone, Copy)]
-pub enum Taken {
-    At(u16, Cursor),
-    Refused(u32, u16),
-}
-
 // How far each table is filled, and what was read last: the number of a type or the length of a list.
 #[derive(Clone, Copy)]
 pub struct Tally {
@@ -54,11 +47,4 @@ pub struct ProcessEntry {
     pub provided: usize,
     pub used: usize,
     pub body: usize,
-}
-
-// What a search found: a position or a number.
-#[derive(Clone, Copy)]
-pub enum Found {
-    At(usize),
-    Nothing,
 }

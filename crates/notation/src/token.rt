@@ -1,6 +1,6 @@
 // Tokens: what stands at an offset of a text.
 ghost use Rattle.std.specs.Prelude.{◌≡◌, ℕ, ◌+◌, ◌-◌, ◌≤◌, ◌<◌, true, not, cond, [], ◌∷◌, ltb, length, get_or, take, drop};
-ghost use Rattle.notation.specs.Bytes.{within, letter, name_byte, blank, same};
+ghost use Rattle.notation.specs.Bytes.{letter, name_byte, blank, same};
 ghost use Rattle.notation.specs.Token.{symbols, symbol, skip, name_end, name_at, name_token, word_at, label_at, mark_at, first_at, token_at, as_token};
 ghost use Rattle.notation.specs.SymbolTable.{rows, beginning};
 ghost use Rattle.notation.specs.Onward.{Onward};
@@ -145,50 +145,26 @@ const WORDS: [u8; 77] =
     *b"\x04type\x00\x00\x04proc\x00\x00\x04exec\x00\x00\x04send\x00\x00\x04recv\x00\x00\x03fwd\x00\x00\x00\x04call\x00\x00\x06cancel\x05raise\x00\x03try\x00\x00\x00\x05catch\x00";
 
 // Tests of bytes are comparisons: a table would be made anew on the stack for each byte.
-fn within(low: u8, high: u8, b: u8) -> bool
-    ensures { result ≡ within low high b }
-{
-    if low <= b {
-        return b <= high;
-    }
-    false
-}
-
+#[tactic(auto, unfolding(crate::specs::Bytes::letter))]
 fn is_letter(b: u8) -> bool
     ensures { result ≡ letter b }
 {
-    if within(b'A', b'Z', b) {
-        return true;
-    }
-    within(b'a', b'z', b)
+    b.is_ascii_alphabetic()
 }
 
 // A byte that a name has: a letter, a digit or _.
+#[tactic(auto, unfolding(crate::specs::Bytes::letter, crate::specs::Bytes::name_byte))]
 pub fn is_name_byte(b: u8) -> bool
     ensures { result ≡ name_byte b }
 {
-    if is_letter(b) {
-        return true;
-    }
-    if within(b'0', b'9', b) {
-        return true;
-    }
-    b == b'_'
+    b.is_ascii_alphanumeric() || b == b'_'
 }
 
+#[tactic(auto, unfolding(crate::specs::Bytes::blank))]
 fn is_blank(b: u8) -> bool
     ensures { result ≡ blank b }
 {
-    if b == b' ' {
-        return true;
-    }
-    if b == b'\t' {
-        return true;
-    }
-    if b == b'\n' {
-        return true;
-    }
-    b == b'\r'
+    matches!(b, b' ' | b'\t' | b'\n' | b'\r')
 }
 
 // The byte at i, and 0 past the end.
@@ -203,10 +179,7 @@ fn skip(text: &[u8], at: usize) -> usize
     ensures { result ≡ skip text.now at }
 {
     let mut i = at;
-    while i < text.len() {
-        if !is_blank(text[i]) {
-            return i;
-        }
+    while i < text.len() && is_blank(text[i]) {
         i += 1;
     }
     i
@@ -218,29 +191,10 @@ fn name_end(text: &[u8], at: usize) -> usize
     ensures lower_bound { at ≤ result }
 {
     let mut i = at;
-    while i < text.len() {
-        if !is_name_byte(text[i]) {
-            return i;
-        }
+    while i < text.len() && is_name_byte(text[i]) {
         i += 1;
     }
     i
-}
-
-fn same_bytes(a: &[u8], b: &[u8]) -> bool
-    ensures { result ≡ same a.now b.now }
-{
-    if a.len() != b.len() {
-        return false;
-    }
-    let mut i = 0;
-    while i < a.len() {
-        if a[i] != b[i] {
-            return false;
-        }
-        i += 1;
-    }
-    true
 }
 
 // The bytes w are the k-th reserved word.
@@ -252,7 +206,7 @@ fn is_word(w: &[u8], table: &[u8], k: usize) -> bool
     let n = table[row] as usize;
     let from = row + 1;
     let to = from + n;
-    same_bytes(w, &table[from..to])
+    w == &table[from..to]
 }
 
 // The first reserved word that begins with a letter.
@@ -318,6 +272,7 @@ fn part(text: &[u8], i: usize, n: usize) -> &[u8]
 }
 
 // The bytes of the name that begins at `at`.
+#[tactic(auto, unfolding(crate::specs::Token::name_at))]
 pub fn name_of(text: &[u8], at: usize) -> &[u8]
     ensures { result.now ≡ name_at text.now at }
 {
@@ -350,6 +305,7 @@ pub fn names_equal(text: &[u8], a: usize, b: usize) -> bool
 }
 
 // How many bytes the name has that begins at `at`.
+#[tactic(auto, using(crate::proofs::Names::name_long))]
 pub fn name_length(text: &[u8], at: usize) -> usize
     ensures { result ≡ length (name_at text.now at) }
 {
@@ -368,9 +324,7 @@ pub fn has_name(text: &[u8], at: usize, n: usize, there: usize) -> bool
     if text.len() - there < n {
         return false;
     }
-    let mut k = n;
-    while 0 < k {
-        k -= 1;
+    for k in (0..n).rev() {
         if text[at + k] != text[there + k] {
             return false;
         }
@@ -379,6 +333,7 @@ pub fn has_name(text: &[u8], at: usize, n: usize, there: usize) -> bool
 }
 
 // A token of this kind whose name stands from `from` to `end`; a name that is too long is at fault.
+#[tactic(auto, unfolding(crate::specs::Token::name_token))]
 fn named(kind: usize, start: usize, from: usize, end: usize) -> Lexeme
     requires { from ≤ end }
     ensures { as_token result ≡ name_token kind start from end }
@@ -414,6 +369,7 @@ fn word_kind(text: &[u8], i: usize, n: usize) -> usize
 }
 
 // A letter stands at i.
+#[tactic(auto, using(crate::proofs::Names::name_long), unfolding(crate::specs::Token::word_at))]
 fn word_at(text: &[u8], i: usize) -> Lexeme
     requires { letter (get_or text.now i 0) ≡ true }
     ensures { as_token result ≡ word_at text.now i }
@@ -424,6 +380,7 @@ fn word_at(text: &[u8], i: usize) -> Lexeme
 }
 
 // An apostrophe stands at i.
+#[tactic(auto, unfolding(crate::specs::Token::label_at))]
 fn label_at(text: &[u8], i: usize) -> Lexeme
     requires { i < length text.now }
     ensures { as_token result ≡ label_at text.now i }
@@ -507,6 +464,7 @@ fn mark_at(text: &[u8], i: usize) -> Lexeme
     }
 }
 
+#[tactic(auto, unfolding(crate::specs::Token::first_at))]
 fn first_at(text: &[u8], i: usize) -> Lexeme
     requires { i < length text.now }
     ensures { as_token result ≡ first_at text.now i }

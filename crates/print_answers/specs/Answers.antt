@@ -1,21 +1,18 @@
 -- The words that a log of calls has for an answer. s is the text.
-use Rattle.std.specs.Prelude.{ℕ, zero, suc, ◌+◌, List, [], ◌∷◌, ◌++◌, Bool, true, false, ◌&&◌, leb}
+use Rattle.std.specs.Prelude.{ℕ, zero, suc, ◌+◌, List, [], ◌∷◌, ◌++◌, Bool, true, false, ◌&&◌, leb, take, Ok, Err}
 use Rattle.notation.specs.Bytes.{bytes}
+use Rattle.notation.specs.Refusals.{OrRefusal}
 use Rattle.notation.specs.Token.{name_at}
 use Rattle.calculus.specs.Machine.{Answer, started, stepped, ran_on, reported, surveyed, name_given}
 use Rattle.calculus.specs.Printed.{decimal}
 use Rattle.calculus.specs.declared.answers.Seen.{Seen}
 use Rattle.calculus.specs.declared.answers.Seen.TheVariants.{Nothing, Label, Close, Passed, Cancelled}
-use Rattle.calculus.specs.declared.answers.Started.{Started}
-use Rattle.calculus.specs.declared.answers.Started.TheVariants as Starts
 use Rattle.calculus.specs.declared.answers.Stepped.{Stepped}
 use Rattle.calculus.specs.declared.answers.Stepped.TheVariants as Steps
 use Rattle.calculus.specs.declared.answers.RanOn.{RanOn}
 use Rattle.calculus.specs.declared.answers.RanOn.TheVariants as Runs
-use Rattle.calculus.specs.declared.answers.Reported.{Reported}
-use Rattle.calculus.specs.declared.answers.Reported.TheVariants as Reports
-use Rattle.calculus.specs.declared.answers.Surveyed.{Surveyed}
-use Rattle.calculus.specs.declared.answers.Surveyed.TheVariants as Surveys
+use Rattle.calculus.specs.declared.answers.Report.{Report}
+use Rattle.calculus.specs.declared.answers.Places.{Places}
 
 -- ── a refusal, with its offset where it has one: "0 for 1 and from 16 on"
 abbrev pub has_offset : ℕ → Bool
@@ -45,25 +42,25 @@ seen_words s (Passed n m gone) = over_words n (bytes "#" ++ decimal m) ++ gone_w
 seen_words s (Cancelled n) = over_words n (bytes "cancelled")
 
 -- ── the answers
-unfoldable pub started_words : Started → List ℕ
-started_words Starts.Begun = bytes "started"
-started_words (Starts.Refused n at) = refused_words n at
+unfoldable pub started_words : OrRefusal (Unit {0}) → List ℕ
+started_words (Ok x) = bytes "started"
+started_words (Err e) = refused_words e.number e.at
 
-unfoldable pub stepped_words : List ℕ → Stepped → List ℕ
-stepped_words s (Steps.Carried seen) = bytes "carried out" ++ seen_words s seen
-stepped_words s Steps.Uncaught = bytes "uncaught"
-stepped_words s (Steps.Refused n at) = refused_words n at
+unfoldable pub stepped_words : List ℕ → OrRefusal Stepped → List ℕ
+stepped_words s (Ok (Steps.Carried seen)) = bytes "carried out" ++ seen_words s seen
+stepped_words s (Ok Steps.Uncaught) = bytes "uncaught"
+stepped_words s (Err e) = refused_words e.number e.at
 
 abbrev pub steps_words : ℕ → List ℕ → List ℕ
 steps_words steps how = decimal steps ++ (bytes " steps, " ++ how)
 
-unfoldable pub ran_on_words : List ℕ → RanOn → List ℕ
-ran_on_words s (Runs.Shown seen steps) = steps_words steps (bytes "seen" ++ seen_words s seen)
-ran_on_words s (Runs.Done steps) = steps_words steps (bytes "done")
-ran_on_words s (Runs.Full steps) = steps_words steps (bytes "full")
-ran_on_words s (Runs.Stopped steps) = steps_words steps (bytes "stopped")
-ran_on_words s (Runs.Uncaught steps) = steps_words steps (bytes "uncaught")
-ran_on_words s (Runs.Refused n at) = refused_words n at
+unfoldable pub ran_on_words : List ℕ → OrRefusal RanOn → List ℕ
+ran_on_words s (Ok (Runs.Shown seen steps)) = steps_words steps (bytes "seen" ++ seen_words s seen)
+ran_on_words s (Ok (Runs.Done steps)) = steps_words steps (bytes "done")
+ran_on_words s (Ok (Runs.Full steps)) = steps_words steps (bytes "full")
+ran_on_words s (Ok (Runs.Stopped steps)) = steps_words steps (bytes "stopped")
+ran_on_words s (Ok (Runs.Uncaught steps)) = steps_words steps (bytes "uncaught")
+ran_on_words s (Err e) = refused_words e.number e.at
 
 -- the words of each number, one after another
 unfoldable pub each_words : (ℕ → List ℕ) → List ℕ → List ℕ
@@ -73,9 +70,9 @@ each_words words (n ∷ l) = words n ++ each_words words l
 abbrev pub number_word : ℕ → List ℕ
 number_word n = bytes " " ++ decimal n
 
-unfoldable pub reported_words : Reported → List ℕ → List ℕ
-reported_words (Reports.Open n) l = bytes "open" ++ each_words number_word l
-reported_words (Reports.Refused n at) l = refused_words n at
+unfoldable pub reported_words : OrRefusal ℕ → List ℕ → List ℕ
+reported_words (Ok n) l = bytes "open" ++ each_words number_word l
+reported_words (Err e) l = refused_words e.number e.at
 
 -- what the step at a place is
 abbrev pub place_word : ℕ → List ℕ
@@ -83,9 +80,9 @@ place_word zero = bytes " waits"
 place_word (suc zero) = bytes " open"
 place_word (suc (suc n)) = bytes " lacks"
 
-unfoldable pub surveyed_words : Surveyed → List ℕ → List ℕ
-surveyed_words (Surveys.Processes n) l = decimal n ++ (bytes " processes" ++ each_words place_word l)
-surveyed_words (Surveys.Refused n at) l = refused_words n at
+unfoldable pub surveyed_words : OrRefusal ℕ → List ℕ → List ℕ
+surveyed_words (Ok n) l = decimal n ++ (bytes " processes" ++ each_words place_word l)
+surveyed_words (Err e) l = refused_words e.number e.at
 
 unfoldable pub named_words : List ℕ → ℕ → ℕ → List ℕ
 named_words part zero at = part
@@ -98,3 +95,20 @@ answer_words s (ran_on a) = ran_on_words s a
 answer_words s (reported a l) = reported_words a l
 answer_words s (surveyed a l) = surveyed_words a l
 answer_words s (name_given part n at) = named_words part n at
+
+-- ── what a report and a survey list, and their words
+abbrev pub open_numbers : OrRefusal Report → List ℕ
+open_numbers (Ok r) = take r.open r.numbers
+open_numbers (Err e) = []
+
+abbrev pub report_words : OrRefusal Report → List ℕ
+report_words (Ok r) = reported_words (Ok r.open) (take r.open r.numbers)
+report_words (Err e) = reported_words (Err e) []
+
+abbrev pub place_steps : OrRefusal Places → List ℕ
+place_steps (Ok r) = take r.processes r.steps
+place_steps (Err e) = []
+
+abbrev pub places_words : OrRefusal Places → List ℕ
+places_words (Ok r) = surveyed_words (Ok r.processes) (take r.processes r.steps)
+places_words (Err e) = surveyed_words (Err e) []

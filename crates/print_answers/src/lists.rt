@@ -1,9 +1,16 @@
 // Lists of numbers, put one after another.
-ghost use Rattle.std.specs.Prelude.{◌+◌, ◌*◌, ◌≤◌, length};
+ghost use Rattle.std.specs.Prelude.{◌≡◌, ◌+◌, ◌*◌, ◌≤◌, length, take};
 ghost use Rattle.print_bytes.specs.Writing.{Appended};
 ghost use Rattle.print_answers.specs.Answers.{each_words, number_word, place_word};
 
 use print_bytes::writing::{put, put_decimal};
+
+// The first n numbers, or all where there are fewer.
+pub(crate) fn first(numbers: &[u32], n: u32) -> &[u32]
+    ensures { result.now ≡ take n numbers.now }
+{
+    &numbers[..numbers.len().min(n as usize)]
+}
 
 fn put_number(out: &mut [u8], at: usize, n: u32) -> usize
     requires { at + 11 ≤ length out.old }
@@ -19,10 +26,8 @@ pub(crate) fn put_numbers(out: &mut [u8], at: usize, numbers: &[u32]) -> usize
     ensures { Appended out.old out.new at result (each_words number_word numbers.now) }
 {
     let mut to = at;
-    let mut i = 0;
-    while i < numbers.len() {
-        to = put_number(out, to, numbers[i]);
-        i += 1;
+    for n in numbers {
+        to = put_number(out, to, *n);
     }
     to
 }
@@ -34,9 +39,9 @@ fn put_place(out: &mut [u8], at: usize, step: u32) -> usize
     ensures upper_bound { result ≤ at + 6 }
 {
     match step {
-        0 => return put(out, at, b" waits"),
-        1 => return put(out, at, b" open"),
-        2.. => return put(out, at, b" lacks"),
+        0 => put(out, at, b" waits"),
+        1 => put(out, at, b" open"),
+        _ => put(out, at, b" lacks"),
     }
 }
 
@@ -45,10 +50,8 @@ pub(crate) fn put_places(out: &mut [u8], at: usize, steps: &[u32]) -> usize
     ensures { Appended out.old out.new at result (each_words place_word steps.now) }
 {
     let mut to = at;
-    let mut i = 0;
-    while i < steps.len() {
-        to = put_place(out, to, steps[i]);
-        i += 1;
+    for step in steps {
+        to = put_place(out, to, *step);
     }
     to
 }

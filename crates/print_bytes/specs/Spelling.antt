@@ -1,8 +1,7 @@
 -- A number's digits, made from the last one on.
-use Rattle.std.specs.Prelude.{ℕ, zero, suc, ◌+◌, ◌-◌, ◌/◌, ◌%◌, ◌≤◌, ◌<◌, ◌≡◌, List, ◌∷◌, true, false, length, set, take, drop}
-use Rattle.std.proofs.Common.{sym, ◌∙◌, ap, subst, arith, length-set, length-drop, drop_of_length-le, drop-cons, drop-set-lt, get_or-set_same, take_all, lt-ltb, le-ltb}
+use Rattle.std.specs.Prelude.{ℕ, zero, suc, ◌+◌, ◌-◌, ◌/◌, ◌%◌, ◌≤◌, ◌<◌, ◌≡◌, List, ◌∷◌, true, false, length, set, drop}
+use Rattle.std.proofs.Common.{sym, ◌∙◌, ap, subst, arith, length-set, drop-cons, drop-set-lt, get_or-set_same, lt-ltb, le-ltb}
 use Rattle.calculus.specs.Printed.{digits, decimal}
-use Rattle.print_bytes.specs.Writing.{Appended, appended_as}
 
 -- n's digits are those of d from `first` on
 pub record Spelled (n : ℕ) (d : List ℕ) (first : ℕ) : Type 0 where
@@ -25,11 +24,8 @@ pub record Spelling (n : ℕ) (d : List ℕ) (first left : ℕ) : Type 0 where
   pub within : first ≤ 10
   pub long : length d ≡ 10
 
-pub spelling_none : (n : ℕ) (d : List ℕ) → length d ≡ 10 → Spelling n d 10 n
-spelling_none n d l = record { is = ap (digits 10 n) (sym (drop_of_length-le d {i = 10} (omega (arith, l)))); within = omega arith; long = l }
-
 -- no more than ten
-pub spelling_full : (n : ℕ) (d : List ℕ) (first left : ℕ) → Spelling n d first left → first ≤ 0 → Spelled n d first
+pub spelling_full : (n : ℕ) (d : List ℕ) (first left : ℕ) → Spelling n d first left → first ≤ 0 → Spelled n d 0
 unfolding digits
 spelling_full n d zero left s h = record { is = sym s.is; within = omega arith; long = s.long }
 spelling_full n d (suc k) left s h = absurd (omega arith)
@@ -66,12 +62,3 @@ module _ (n : ℕ) (d : List ℕ) (left b : ℕ) (e : b ≡ 48 + left % 10) wher
   pub spelling_last : (first : ℕ) → Spelling n d first left → 0 < first → left < 10 → Spelled n (set d (first - 1) b) (first - 1)
   spelling_last zero s p h = absurd (omega arith)
   spelling_last (suc k) s p h = let z : k ≡ suc k - 1 = omega arith in subst (λ j. Spelled n (set d j b) j) z (last_from k s h)
-
--- all of them are put
-pub spelled_put : (n : ℕ) (d : List ℕ) (first : ℕ) → Spelled n d first → {old new : List ℕ} {at r : ℕ} → Appended old new at r (take (10 - first) (drop first d)) → Appended old new at r (decimal n) × (r ≤ at + 10)
-spelled_put n d first s {old} {new} {at} {r} a =
-    let l = drop first d in
-    let long : length l ≡ 10 - first = length-drop first d ∙ ap (λ m. m - first) s.long in
-    let e : take (10 - first) l ≡ l = take_all (10 - first) l (omega (arith, long)) in
-    let z : r ≡ at + length l = a.ends ∙ ap (λ x. at + length x) e in
-    (appended_as (e ∙ s.is) a, omega (arith, z, long))

@@ -1,8 +1,7 @@
 -- Texts put into a buffer, one after another.
 use Rattle.std.specs.Prelude.{ℕ, ◌+◌, ◌≤◌, ◌<◌, ◌≡◌, refl, List, ◌++◌, length, get_or, set, take}
-use Rattle.std.proofs.Common.{sym, ◌∙◌, ap, subst, append_assoc, add-one, arith, length-append, length-set, take_all}
+use Rattle.std.proofs.Common.{sym, ◌∙◌, ap, subst, append_assoc, add-one, arith, length-append, length-set}
 use Rattle.std.proofs.Math.Seq.{paste, paste-zero, paste-suc}
-use Rattle.std.proofs.lemmas.List.Edits.{take-paste}
 
 -- from `at` on the text l was put, up to r; what stood before it is kept
 pub record Appended (old new : List ℕ) (at r : ℕ) (l : List ℕ) : Type 0 where
@@ -22,7 +21,7 @@ appended_on {old} {mid} {new} {at} {i} {r} {l} {m} a b = record {
 pub appended_as : {old new : List ℕ} {at r : ℕ} {l m : List ℕ} → l ≡ m → Appended old new at r l → Appended old new at r m
 appended_as {old} {new} {at} {r} e a = subst (Appended old new at r) e a
 
--- ── the loop that puts: i bytes of the text stand
+-- ── the first i bytes of a text stand, and whatever was past them
 pub record Putting (old new : List ℕ) (at : ℕ) (l : List ℕ) (i : ℕ) : Type 0 where
   pub is : new ≡ paste old at l i
   pub within : i ≤ length l
@@ -37,11 +36,4 @@ module _ (old : List ℕ) (at : ℕ) (l : List ℕ) (room : at + length l ≤ le
     is = ap (λ x. set x (at + i) (get_or l i 0)) p.is ∙ paste-suc old at l i 0 (omega arith) h ∙ ap (paste old at l) (sym (add-one i));
     within = omega arith;
     long = length-set new (at + i) (get_or l i 0) ∙ p.long;
-  }
-
-  pub put_all : {new : List ℕ} (i : ℕ) → Putting old new at l i → length l ≤ i → Appended old new at (at + i) l
-  put_all {new} i p h = record {
-    ends = omega (arith, p.within);
-    front = ap (take (at + i)) p.is ∙ take-paste old at l i (omega arith) p.within ∙ ap (λ x. take at old ++ x) (take_all i l h);
-    long = p.long;
   }

@@ -8,12 +8,9 @@ pub fn put(out: &mut [u8], at: usize, what: &[u8]) -> usize
     requires { at + length what.now ≤ length out.old }
     ensures { Appended out.old out.new at result what.now }
 {
-    let mut i = 0;
-    while i < what.len() {
-        out[at + i] = what[i];
-        i += 1;
-    }
-    at + i
+    let end = at + what.len();
+    out[at..end].copy_from_slice(what);
+    end
 }
 
 pub fn put_decimal(out: &mut [u8], at: usize, n: usize) -> usize
@@ -31,17 +28,15 @@ fn spell(digits: &mut [u8], n: usize) -> usize
     requires { length digits.old ≡ 10 }
     ensures { Spelled n digits.new result }
 {
-    let mut first: usize = 10;
     let mut left = n;
-    while 0 < first {
-        first -= 1;
+    for first in (0..10).rev() {
         digits[first] = digit(left);
         if left < 10 {
             return first;
         }
         left /= 10;
     }
-    first
+    0
 }
 
 // The last digit of a number.

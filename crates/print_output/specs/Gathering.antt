@@ -1,5 +1,5 @@
 -- What is handed over to be written: what is due, what waits in the buffer until it is much, what a writer whose bytes are known then holds, and what the program's answer says.
-use Rattle.std.specs.Prelude.{ℕ, ◌+◌, ◌≤◌, ◌≡◌, List, [], ◌++◌, Bool, true, false, length, take}
+use Rattle.std.specs.Prelude.{ℕ, ◌+◌, ◌≤◌, ◌≡◌, List, [], ◌++◌, Bool, true, false, length, take, Result, Ok, Err}
 use Rattle.std.specs.Io.KnownBytes.{Appends}
 use Rattle.std.specs.declared.option.Option.{Option}
 use Rattle.std.proofs.Common.{refl, sym, ◌∙◌, ap, subst, append_assoc, append-nil, length-take-le}
@@ -13,8 +13,6 @@ use Rattle.print_pieces.specs.Pieces.{left_in, is_left, is_accepted, First, Next
 use Rattle.print_pieces.specs.declared.pieces.Stage.{Stage}
 use Rattle.print_pieces.specs.declared.pieces.Stage.TheVariants.{Warning, Channel, Label, Exec, Running, Finished}
 use Rattle.print_pieces.specs.declared.pieces.Piece.{Piece}
-use Rattle.print_output.specs.declared.text.Waiting.{Waiting}
-use Rattle.print_output.specs.declared.text.Waiting.TheVariants as waiting
 use Rattle.print_output.specs.declared.text.Printed.{Printed}
 use Rattle.print_output.specs.declared.text.Printed.TheVariants.{Run, Refused, Unwritten}
 
@@ -55,22 +53,15 @@ module _ {s w : List ℕ} where
       → Due s w vs r.stage (take (m + r.length) (take m out ++ (part ++ rest)))
   due_next out rest m h d n = record { before = d.before; is = put_next d.before out rest m h d.is n }
 
--- ── what waits: few bytes, and they are due
-abbrev waits_by : List ℕ → List ℕ → List ℕ → Stage → List ℕ → Waiting → Type 0
-waits_by s w ws stage out (waiting.Bytes n) = (n ≤ gathered) × Due s w ws stage (take n out)
-waits_by s w ws stage out waiting.Unwritten = Unit {0}
+-- ── what waits, where it could be written: few bytes, and they are due
+abbrev waits_by : {E : Type 0} → List ℕ → List ℕ → List ℕ → Stage → List ℕ → Result ℕ E → Type 0
+waits_by s w ws stage out (Ok n) = (n ≤ gathered) × Due s w ws stage (take n out)
+waits_by s w ws stage out (Err e) = Unit {0}
 
-pub record Waits (s w ws : List ℕ) (stage : Stage) (out : List ℕ) (r : Waiting) : Type 0 where
+pub record Waits {E : Type 0} (s w ws : List ℕ) (stage : Stage) (out : List ℕ) (r : Result ℕ E) : Type 0 where
   pub is : waits_by s w ws stage out r
 
-pub waits_bytes : {s w ws out : List ℕ} {stage : Stage} {r : Waiting} {n : ℕ} → Waits s w ws stage out r → r ≡ waiting.Bytes n → (n ≤ gathered) × Due s w ws stage (take n out)
-waits_bytes {s} {w} {ws} {out} {stage} f e = subst (waits_by s w ws stage out) e f.is
-
 -- ── what is answered
-abbrev pub told_as : Bool → Printed → Printed
-told_as true r = r
-told_as false r = Unwritten
-
 abbrev says_by : List ℕ → Printed → Type 0
 says_by s Run = is_accepted (checked s) ≡ true
 says_by s Refused = is_accepted (checked s) ≡ false
@@ -80,21 +71,13 @@ says_by s Unwritten = Unit {0}
 pub record Says (s : List ℕ) (r : Printed) : Type 0 where
   pub is : says_by s r
 
-pub says_run : {s : List ℕ} (b : Bool) {r : Printed} → is_accepted (checked s) ≡ true → r ≡ told_as b Run → Says s r
-says_run {s} true a e = record { is = subst (says_by s) (sym e) a }
-says_run {s} false a e = record { is = subst (says_by s) (sym e) tt }
-
-pub says_refused : {s : List ℕ} (b : Bool) {r : Printed} → is_accepted (checked s) ≡ false → r ≡ told_as b Refused → Says s r
-says_refused {s} true a e = record { is = subst (says_by s) (sym e) a }
-says_refused {s} false a e = record { is = subst (says_by s) (sym e) tt }
-
 -- ── what a writer holds: old before, new after, where its bytes are known
 -- of the bytes l, those that wait no longer were taken
-abbrev gone_by : Option (List ℕ) → Option (List ℕ) → List ℕ → List ℕ → Waiting → Type 0
-gone_by old new l out (waiting.Bytes n) = (gone : List ℕ) × Appends old new gone × (l ≡ gone ++ take n out)
-gone_by old new l out waiting.Unwritten = Unit {0}
+abbrev gone_by : {E : Type 0} → Option (List ℕ) → Option (List ℕ) → List ℕ → List ℕ → Result ℕ E → Type 0
+gone_by old new l out (Ok n) = (gone : List ℕ) × Appends old new gone × (l ≡ gone ++ take n out)
+gone_by old new l out (Err e) = Unit {0}
 
-pub record Gone (old new : Option (List ℕ)) (l out : List ℕ) (r : Waiting) : Type 0 where
+pub record Gone {E : Type 0} (old new : Option (List ℕ)) (l out : List ℕ) (r : Result ℕ E) : Type 0 where
   pub is : gone_by old new l out r
 
 -- of what was left at the stage a, all was taken but the bytes l, which wait, and what is left at the stage b
@@ -117,8 +100,8 @@ module _ {old : Option (List ℕ)} {s w vs : List ℕ} {a : Stage} where
       → Next s w ws us part b r → Taken old new s w vs a us r.stage (take (m + r.length) (take m out ++ (part ++ rest)))
   taken_next out rest m h t n = record { before = t.before; is = put_next t.before out rest m h t.is n; appends = t.appends }
 
-  pub taken_gone : {mid new : Option (List ℕ)} {ws l out : List ℕ} {b : Stage} {n : ℕ} → Taken old mid s w vs a ws b l → Gone mid new l out (waiting.Bytes n) → Taken old new s w vs a ws b (take n out)
-  taken_gone {mid} {new} {ws} {l} {out} {b} {n} t f =
+  pub taken_gone : {E : Type 0} {mid new : Option (List ℕ)} {ws l out : List ℕ} {b : Stage} {n : ℕ} → Taken old mid s w vs a ws b l → Gone {E = E} mid new l out (Ok n) → Taken old new s w vs a ws b (take n out)
+  taken_gone {mid = mid} {new = new} {ws = ws} {l = l} {out = out} {b = b} {n = n} t f =
       let (gone, taken, is) = f.is in
       record {
         before = t.before ++ gone;
@@ -139,16 +122,14 @@ writes_by old new s Unwritten = Unit {0}
 pub record Writes (old new : Option (List ℕ)) (s : List ℕ) (r : Printed) : Type 0 where
   pub is : writes_by old new s r
 
--- the first piece, and then all that is left, where both were written
-pub writes_run : {old new : Option (List ℕ)} {s w out : List ℕ} {f : Piece} {r : Printed} (mid : Option (List ℕ)) (ws : List ℕ) (b : Bool) → First s w out f → Appends old mid (take f.length out)
-    → (b ≡ true → Appends mid new (left_in s w ws f.stage)) → r ≡ told_as b Run → Writes old new s r
-writes_run {old} {new} {s} {w} {out} {f} mid ws true g h k e =
-    record { is = subst (writes_by old new s) (sym e) (subst (Appends old new) (sym (g.is ws)) (Appends-trans old mid new (take f.length out) (left_in s w ws f.stage) h (k refl))) }
-writes_run {old} {new} {s} mid ws false g h k e = record { is = subst (writes_by old new s) (sym e) tt }
+-- the first piece, and then all that is left
+pub writes_run : {old new : Option (List ℕ)} {s w out : List ℕ} {f : Piece} (mid : Option (List ℕ)) (ws : List ℕ) → First s w out f → Appends old mid (take f.length out)
+    → Appends mid new (left_in s w ws f.stage) → Writes old new s Run
+writes_run {old} {new} {s} {w} {out} {f} mid ws g h k =
+    record { is = subst (Appends old new) (sym (g.is ws)) (Appends-trans old mid new (take f.length out) (left_in s w ws f.stage) h k) }
 
 -- the first piece alone
-pub writes_refused : {old new : Option (List ℕ)} {s w out : List ℕ} {f : Piece} {r : Printed} (b : Bool) → First s w out f → is_left f.stage ≡ false
-    → (b ≡ true → Appends old new (take f.length out)) → r ≡ told_as b Refused → Writes old new s r
-writes_refused {old} {new} {s} {w} {out} {f} true g n h e =
-    record { is = subst (writes_by old new s) (sym e) (subst (Appends old new) (sym (g.is [] ∙ ap (λ l. take f.length out ++ l) (left_none s w [] f.stage n) ∙ append-nil (take f.length out))) (h refl)) }
-writes_refused {old} {new} {s} false g n h e = record { is = subst (writes_by old new s) (sym e) tt }
+pub writes_refused : {old new : Option (List ℕ)} {s w out : List ℕ} {f : Piece} → First s w out f → is_left f.stage ≡ false
+    → Appends old new (take f.length out) → Writes old new s Refused
+writes_refused {old} {new} {s} {w} {out} {f} g n h =
+    record { is = subst (Appends old new) (sym (g.is [] ∙ ap (λ l. take f.length out ++ l) (left_none s w [] f.stage n) ∙ append-nil (take f.length out))) h }

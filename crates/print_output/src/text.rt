@@ -1,12 +1,13 @@
 // The pieces of a text, one after another, to a writer.
-ghost use Rattle.std.specs.Prelude.{◌≡◌, [], ℕ, ◌+◌, ◌≤◌, length, take, IsTrue};
+ghost use Rattle.std.specs.Prelude.{◌≡◌, [], ℕ, ◌+◌, ◌≤◌, length, take, IfOk};
 ghost use Rattle.std.specs.Io.KnownBytes.{Appends};
 ghost use Rattle.notation.specs.Limits.{run_words};
 ghost use Rattle.print_pieces.specs.Pieces.{piece_bytes, left_in, Going};
-ghost use Rattle.print_output.specs.Gathering.{gathered, Due, Waits, Gone, told_as, Says, Writes};
+ghost use Rattle.print_output.specs.Gathering.{gathered, Due, Waits, Gone, Says, Writes};
 
 use notation::script::Script;
 use print_pieces::pieces::{PIECE_BYTES, Stage, first_piece, is_left, next_piece};
+use std::io;
 use std::io::Write;
 
 // What became of a text: its execs' lines, or its refusal, were written; or what was to be written could not be.
@@ -22,14 +23,7 @@ const GATHERED: usize = 4096;
 
 const BUFFER_BYTES: usize = GATHERED + PIECE_BYTES;
 
-// How many bytes wait in the buffer; or that they could not be written.
-#[derive(Clone, Copy)]
-pub enum Waiting {
-    Bytes(usize),
-    Unwritten,
-}
-
-// Hands the first n bytes over to be written: they come directly before what is left at the stage. Answers whether they were written.
+// Hands the first n bytes over to be written: they come directly before what is left at the stage.
 fn write_due<W: Write>(
     to: &mut W,
     text: &[u8],
@@ -38,15 +32,15 @@ fn write_due<W: Write>(
     out: &[u8],
     n: usize,
     stage: Stage,
-) -> bool
+) -> io::Result<()>
     requires n_in_bounds { n ≤ length out.now }
     requires due { Due text.now scratch.now run.now stage (take n out.now) }
-    ensures { IsTrue result → Appends (W.contents to.old) (W.contents to.new) (take n out.now) }
+    ensures { IfOk result (λ _. Appends (W.contents to.old) (W.contents to.new) (take n out.now)) }
 {
-    to.write_all(&out[..n]).is_ok()
+    to.write_all(&out[..n])
 }
 
-// Writes the first n bytes, if they are many.
+// Writes the first n bytes, if they are many; answers how many wait then.
 fn write_many<W: Write>(
     to: &mut W,
     text: &[u8],
@@ -55,22 +49,20 @@ fn write_many<W: Write>(
     out: &[u8],
     n: usize,
     stage: Stage,
-) -> Waiting
+) -> io::Result<usize>
     requires n_in_bounds { n ≤ length out.now }
     requires due { Due text.now scratch.now run.now stage (take n out.now) }
     ensures waits { Waits text.now scratch.now run.now stage out.now result }
     ensures gone { Gone (W.contents to.old) (W.contents to.new) (take n out.now) out.now result }
 {
     if n <= GATHERED {
-        return Waiting::Bytes(n);
+        return Ok(n);
     }
-    if write_due(to, text, scratch, run, out, n, stage) {
-        return Waiting::Bytes(0);
-    }
-    Waiting::Unwritten
+    write_due(to, text, scratch, run, out, n, stage)?;
+    Ok(0)
 }
 
-// All that is left at a stage; answers whether it was written.
+// All that is left at a stage.
 fn print_rest<W: Write>(
     to: &mut W,
     text: &[u8],
@@ -78,33 +70,37 @@ fn print_rest<W: Write>(
     run: &mut [u32],
     out: &mut [u8],
     from: Stage,
-) -> bool
+) -> io::Result<()>
     requires going { Going text.now scratch.now run.old from }
     requires due { Due text.now scratch.now run.old from [] }
     requires run_words_in_bounds { (run_words ≤ length run.old) × (gathered + piece_bytes ≤ length out.old) }
-    ensures { IsTrue result → Appends (W.contents to.old) (W.contents to.new) (left_in text.now scratch.now run.old from) }
+    ensures { IfOk result (λ _. Appends (W.contents to.old) (W.contents to.new) (left_in text.now scratch.now run.old from)) }
 {
     let mut stage = from;
     let mut waiting: usize = 0;
     while is_left(stage) {
         let p = next_piece(text, scratch, run, &mut out[waiting..], stage);
         stage = p.stage;
-        let w = write_many(to, text, scratch, run, out, waiting + p.length, stage);
-        let Waiting::Bytes(n) = w else {
-            return false;
-        };
-        waiting = n;
+        waiting = write_many(to, text, scratch, run, out, waiting + p.length, stage)?;
     }
     write_due(to, text, scratch, run, out, waiting, stage)
 }
 
-fn told(is_written: bool, what: Printed) -> Printed
-    ensures { result ≡ told_as is_written what }
+// Which of the two was written.
+fn print_all<W: Write>(text: &[u8], to: &mut W) -> io::Result<Printed>
+    ensures says { IfOk result (λ r. Says text.now r) }
+    ensures writes { IfOk result (λ r. Writes (W.contents to.old) (W.contents to.new) text.now r) }
 {
-    if is_written {
-        return what;
+    let mut scratch = [0u32; Script::SCRATCH_WORDS];
+    let mut run = [0u32; Script::RUN_WORDS];
+    let mut out = [0u8; BUFFER_BYTES];
+    let p = first_piece(text, &mut scratch, &mut out);
+    write_due(to, text, &scratch, &run, &out, p.length, p.stage)?;
+    if is_left(p.stage) {
+        print_rest(to, text, &scratch, &mut run, &mut out, p.stage)?;
+        return Ok(Printed::Run);
     }
-    Printed::Unwritten
+    Ok(Printed::Refused)
 }
 
 // What a text's refusal, or its execs, are to print.
@@ -112,21 +108,8 @@ pub fn print_text<W: Write>(text: &[u8], to: &mut W) -> Printed
     ensures says { Says text.now result }
     ensures writes { Writes (W.contents to.old) (W.contents to.new) text.now result }
 {
-    let mut scratch = [0u32; Script::SCRATCH_WORDS];
-    let mut run = [0u32; Script::RUN_WORDS];
-    let mut out = [0u8; BUFFER_BYTES];
-    let p = first_piece(text, &mut scratch, &mut out);
-    let n = p.length;
-    let stage = p.stage;
-    let is_written = write_due(to, text, &scratch, &run, &out, n, stage);
-    if is_left(stage) {
-        if is_written {
-            return told(
-                print_rest(to, text, &scratch, &mut run, &mut out, stage),
-                Printed::Run,
-            );
-        }
-        return Printed::Unwritten;
+    match print_all(text, to) {
+        Ok(what) => what,
+        Err(_) => Printed::Unwritten,
     }
-    told(is_written, Printed::Refused)
 }

@@ -12,7 +12,7 @@ use Rattle.calculus.specs.Warnings as calculus
 use Rattle.calculus.specs.Warnings.{warnings}
 use Rattle.calculus.specs.WellFormed.{WellFormed}
 use Rattle.calculus.specs.declared.answers.RanOn.{RanOn}
-use Rattle.calculus.specs.declared.answers.RanOn.TheVariants.{Shown, Done, Full, Stopped, Uncaught, Refused}
+use Rattle.calculus.specs.declared.answers.RanOn.TheVariants.{Shown, Done, Full, Stopped, Uncaught}
 use Rattle.read_tables.specs.Decode.{script_in}
 use Rattle.read_tables.specs.Program.{program_in}
 use Rattle.run_alone.specs.Run.{config_in, RunOf}
@@ -129,7 +129,6 @@ told_lines s taken (Done steps) = ending (bytes "done") (taken + steps)
 told_lines s taken (Full steps) = ending (bytes "full") (taken + steps)
 told_lines s taken (Stopped steps) = ending (bytes "stopped") (taken + steps)
 told_lines s taken (Uncaught steps) = ending (bytes "uncaught") (taken + steps)
-told_lines s taken (Refused n at) = []
 
 abbrev pub told_stage : ℕ → ℕ → RanOn → Stage
 told_stage line taken (Shown seen steps) = Running line (taken + steps)
@@ -137,7 +136,6 @@ told_stage line taken (Done steps) = Exec (line + 1)
 told_stage line taken (Full steps) = Exec (line + 1)
 told_stage line taken (Stopped steps) = Exec (line + 1)
 told_stage line taken (Uncaught steps) = Exec (line + 1)
-told_stage line taken (Refused n at) = Exec (line + 1)
 
 -- ── every list of pieces
 -- a call of next_piece: the run's words lent and left, the bytes of the buffer afterwards, and its answer

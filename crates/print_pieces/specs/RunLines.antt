@@ -7,7 +7,7 @@ use Rattle.calculus.specs.Runs.{run_on}
 use Rattle.calculus.specs.Printed.{step_limit, showing, run_lines}
 use Rattle.calculus.specs.declared.answers.Seen.{Seen}
 use Rattle.calculus.specs.declared.answers.RanOn.{RanOn}
-use Rattle.calculus.specs.declared.answers.RanOn.TheVariants.{Shown, Done, Full, Stopped, Uncaught, Refused}
+use Rattle.calculus.specs.declared.answers.RanOn.TheVariants.{Shown, Done, Full, Stopped, Uncaught}
 use Rattle.theory_progress.specs.RunOn.{Ended, showing_to, given, run_on_ends}
 
 -- run-on takes at most its budget, and a sighting at least one step
@@ -18,7 +18,6 @@ module _ (p : Program) (C : Config) (budget : ℕ) where
   steps_within D (Full t) e = e.0
   steps_within D (Stopped t) e = omega (arith, e.0)
   steps_within D (Uncaught t) e = e.0
-  steps_within D (Refused k i) e = absurd e
 
   pub given_within : given (run_on p C budget).answer ≤ budget
   given_within = steps_within (run_on p C budget).config (run_on p C budget).answer (run_on_ends p C budget)
@@ -41,7 +40,6 @@ module _ (s : List ℕ) (taken : ℕ) where
   showing_same (Full n) f g h = refl
   showing_same (Stopped n) f g h = refl
   showing_same (Uncaught n) f g h = refl
-  showing_same (Refused n i) f g h = refl
 
 -- more fuel than steps are left does not matter
 pub fuel_enough : (s : List ℕ) (p : Program) (n m taken : ℕ) (C : Config) → step_limit - taken < n → step_limit - taken < m → run_lines n s p taken C ≡ run_lines m s p taken C

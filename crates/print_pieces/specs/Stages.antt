@@ -20,13 +20,14 @@ use Rattle.calculus.specs.Program.{Signature, Program}
 use Rattle.calculus.specs.Runs.{start_config, line_signature, exec_of, run_on}
 use Rattle.calculus.specs.WellFormed.{WellFormed}
 use Rattle.calculus.specs.declared.answers.RanOn.{RanOn}
-use Rattle.calculus.specs.declared.answers.RanOn.TheVariants.{Shown, Done, Full, Stopped, Uncaught, Refused}
+use Rattle.calculus.specs.declared.answers.RanOn.TheVariants.{Shown, Done, Full, Stopped, Uncaught}
 use Rattle.theory_preservation.specs.Accepted.{accepted_start}
 use Rattle.theory_safety.specs.Safety.{run_keeps}
 use Rattle.theory_progress.specs.RunOn.{given}
 use Rattle.calculus.specs.Verdict.{verdict_of}
-use Rattle.calculus.specs.declared.verdict.Verdict.{Verdict}
-use Rattle.calculus.specs.declared.verdict.Verdict.TheVariants as verdict
+use Rattle.std.specs.Prelude.{Ok, Err}
+use Rattle.notation.specs.Refusals.{OrRefusal}
+use Rattle.notation.specs.declared.refusal.Refusal.{Refusal}
 use Rattle.check_text.specs.Texts.{verdict_in, words_in, TextChecked}
 use Rattle.read_tables.specs.Access.{ExecOf, exec_of_lem}
 use Rattle.read_tables.specs.Decode.{tally_in, exec_at}
@@ -85,19 +86,19 @@ pub printed_by : (s : List ℕ) (c : Checked) → checked s ≡ c → printed s 
 unfolding printed
 printed_by s c e = ap (printed_of s) e
 
-module _ (s w x : List ℕ) (v : Verdict) (t : TextChecked s w v x) (long : length w ≡ scratch_words) where
+module _ (s w x : List ℕ) (v : OrRefusal (Unit {0})) (t : TextChecked s w v x) (long : length w ≡ scratch_words) where
   enough : (verdict_of v ≡ verdict_in (checked s)) × (x ≡ words_in s (checked s) ++ drop scratch_words w) × FitsTables s
   enough = t.enough (omega (arith, long))
 
-  pub first_refused : (n i : ℕ) → v ≡ verdict.Refused n i → {old out : List ℕ} {m : ℕ} → Appended old out 0 m (Printed.line (bytes "refused " ++ (decimal n ++ (bytes " at " ++ decimal i)))) → First s x out (record { length = m; stage = Finished })
-  first_refused n i q a = record {
-    is = λ ws. printed_by s (faulty n i) (refused_so (checked s) n i (ap verdict_of (sym q) ∙ enough.0)) ∙ sym (append-nil _) ∙ ap (λ l. l ++ []) (sym a.front);
+  pub first_refused : (e : Refusal) → v ≡ Err e → {old out : List ℕ} {m : ℕ} → Appended old out 0 m (Printed.line (bytes "refused " ++ (decimal e.number ++ (bytes " at " ++ decimal e.at)))) → First s x out (record { length = m; stage = Finished })
+  first_refused e q a = record {
+    is = λ ws. printed_by s (faulty e.number e.at) (refused_so (checked s) e.number e.at (ap verdict_of (sym q) ∙ enough.0)) ∙ sym (append-nil _) ∙ ap (λ l. l ++ []) (sym a.front);
     within = put_within a;
     going = λ ws. record { is = tt };
-    more = sym (ap is_accepted (refused_so (checked s) n i (ap verdict_of (sym q) ∙ enough.0)));
+    more = sym (ap is_accepted (refused_so (checked s) e.number e.at (ap verdict_of (sym q) ∙ enough.0)));
   }
 
-  module _ (q : v ≡ verdict.Fine) where
+  module _ (q : v ≡ (Ok tt)) where
     script : (ds : List Declaration) × (checked s ≡ accepted ds)
     script = fine_so (checked s) (ap verdict_of (sym q) ∙ enough.0)
 
@@ -224,7 +225,6 @@ module _ (s w ws : List ℕ) (line taken : ℕ) (r : RunningIn s w ws line taken
   told_left (Full n) e = refl
   told_left (Stopped n) e = refl
   told_left (Uncaught n) e = refl
-  told_left (Refused n i) e = refl
 
   module _ (vs : List ℕ) (m : Becomes s w ws vs D) where
     told_going : (a : RanOn) → A ≡ a → Going s w vs (told_stage line taken a)
@@ -243,7 +243,6 @@ module _ (s w ws : List ℕ) (line taken : ℕ) (r : RunningIn s w ws line taken
     told_going (Full n) e = record { is = r.text }
     told_going (Stopped n) e = record { is = r.text }
     told_going (Uncaught n) e = record { is = r.text }
-    told_going (Refused n i) e = record { is = r.text }
 
   told_falls : (a : RanOn) → A ≡ a → turns_in s w (told_stage line taken a) < turns_in s w (Running line taken)
   told_falls (Shown seen n) e = let b = shown_steps Q (config_in s w ws) budget seen n e in omega (arith, b, r.steps)
@@ -251,7 +250,6 @@ module _ (s w ws : List ℕ) (line taken : ℕ) (r : RunningIn s w ws line taken
   told_falls (Full n) e = omega arith
   told_falls (Stopped n) e = omega arith
   told_falls (Uncaught n) e = omega arith
-  told_falls (Refused n i) e = omega arith
 
   -- no more steps than there are
   pub told_steps : {a : RanOn} {vs : List ℕ} → RunsOn s w ws vs a (run_on Q (config_in s w ws) budget) → taken + given a ≤ step_limit

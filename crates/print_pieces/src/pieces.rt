@@ -8,8 +8,7 @@ ghost use Rattle.print_pieces.specs.Pieces.{piece_bytes, channel_part, label_par
 ghost use Rattle.print_pieces.specs.declared.pieces.Stage.TheVariants.{Warning, Label, Exec, Running};
 
 use crate::lines::{put_ending, put_header, put_missing, put_named, put_refusal, put_sighting};
-use calculus::answers::{RanOn, Warned};
-use calculus::verdict::Verdict;
+use calculus::answers::RanOn;
 use check_text::check::check;
 use check_text::warnings::warning;
 use notation::script::Script;
@@ -60,17 +59,15 @@ pub fn first_piece(text: &[u8], scratch: &mut [u32], out: &mut [u8]) -> Piece
     requires { (length scratch.old ≡ scratch_words) × (piece_bytes ≤ length out.old) }
     ensures { First text.now scratch.new out.new result }
 {
-    let v = check(text, scratch);
-    let Verdict::Refused(n, i) = v else {
-        return Piece {
+    match check(text, scratch) {
+        Ok(()) => Piece {
             length: 0,
             stage: Stage::Warning(0),
-        };
-    };
-    let length = put_refusal(out, n, i);
-    Piece {
-        length,
-        stage: Stage::Finished,
+        },
+        Err(refusal) => Piece {
+            length: put_refusal(out, refusal),
+            stage: Stage::Finished,
+        },
     }
 }
 
@@ -107,20 +104,12 @@ fn warning_piece(text: &[u8], scratch: &[u32], out: &mut [u8], k: usize) -> Piec
     requires piece_bytes_in_bounds { piece_bytes ≤ length out.old }
     ensures { Still text.now scratch.now out.new (Warning k) result }
 {
-    let w = warning(text, scratch, k);
-    match w {
-        Warned::Missing(process, channel, label) => {
-            let length = put_named(text, out, b"Warning: process ", process);
-            return Piece {
-                length,
-                stage: Stage::Channel(k + 1, channel, label),
-            };
-        }
-        Warned::Nothing => return Piece {
-            length: 0,
-            stage: Stage::Exec(0),
+    match warning(text, scratch, k) {
+        Some(missing) => Piece {
+            length: put_named(text, out, b"Warning: process ", missing.process),
+            stage: Stage::Channel(k + 1, missing.channel, missing.label),
         },
-        Warned::Refused(_, _) => return Piece {
+        None => Piece {
             length: 0,
             stage: Stage::Exec(0),
         },
@@ -200,21 +189,14 @@ fn told_piece(text: &[u8], out: &mut [u8], line: usize, taken: u32, answer: RanO
     ensures { Wrote out.new result (told_lines text.now taken answer) (told_stage line taken answer) }
 {
     match answer {
-        RanOn::Shown(seen, steps) => {
-            let length = put_sighting(text, out, seen);
-            return Piece {
-                length,
-                stage: Stage::Running(line, taken + steps),
-            };
-        }
-        RanOn::Done(steps) => return ended_piece(out, b"done", line, taken + steps),
-        RanOn::Full(steps) => return ended_piece(out, b"full", line, taken + steps),
-        RanOn::Stopped(steps) => return ended_piece(out, b"stopped", line, taken + steps),
-        RanOn::Uncaught(steps) => return ended_piece(out, b"uncaught", line, taken + steps),
-        RanOn::Refused(_, _) => return Piece {
-            length: 0,
-            stage: Stage::Exec(line + 1),
+        RanOn::Shown(seen, steps) => Piece {
+            length: put_sighting(text, out, seen),
+            stage: Stage::Running(line, taken + steps),
         },
+        RanOn::Done(steps) => ended_piece(out, b"done", line, taken + steps),
+        RanOn::Full(steps) => ended_piece(out, b"full", line, taken + steps),
+        RanOn::Stopped(steps) => ended_piece(out, b"stopped", line, taken + steps),
+        RanOn::Uncaught(steps) => ended_piece(out, b"uncaught", line, taken + steps),
     }
 }
 

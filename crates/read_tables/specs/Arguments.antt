@@ -1,6 +1,6 @@
 -- A call's names, read again from its bracket, are those that were read: a reading turns on nothing but the token at hand, and with more fuel and fewer brackets open it reads the same.
 use Prim.Native.Nat.{ℕ, zero, suc, ◌+◌, ◌-◌, ◌≤◌}
-use Rattle.std.specs.Prelude.{◌≡◌, Bool, true, false, not, cond, length, drop, ltb, eqb}
+use Rattle.std.specs.Prelude.{◌≡◌, Bool, true, false, not, cond, length, drop, ltb, eqb, Ok, Err}
 use Rattle.std.proofs.Math.Path.{refl}
 use Rattle.std.proofs.Common.{sym, ◌∙◌, ap, subst, drop-drop, ltb-true, lt-ltb, le-ltb}
 use mathlib.Core.List.{List, [], ◌∷◌}
@@ -11,15 +11,14 @@ use Rattle.notation.specs.Bytes.{blank, position}
 use Rattle.notation.specs.Limits.{bracket_limit}
 use Rattle.notation.specs.Token.{token, skip, first_at, token_at, kind_at, k_name, k_comma, k_round_open, k_round_close, k_square_open, k_square_close, k_end}
 use Rattle.notation.specs.Tree.{Located}
-use Rattle.notation.specs.Reader.{Result, got, refused, on_token, part, lastly, choose, past, fault, expect, limited, may_open, deeper, opening, name_in}
+use Rattle.notation.specs.Reader.{Result, Taken, got, refused, on_token, part, lastly, choose, past, fault, expect, limited, may_open, deeper, opening, name_in}
 use Rattle.notation.specs.Processes.{read_names, name_list}
+use Rattle.notation.specs.Refusals.{refuses}
 use Rattle.notation.specs.Scripts.{fuel}
 use Rattle.notation.specs.From.{CallRead}
 use Rattle.notation.proofs.Tokens.{find_case, find_ge, first_start, skip_ge}
 use Rattle.notation.specs.declared.token.Token.{Token}
 use Rattle.notation.specs.declared.reading.Cursor.{Cursor}
-use Rattle.notation.specs.declared.reading.Taken.{Taken}
-use Rattle.notation.specs.declared.reading.Taken.TheVariants.{At, Refused}
 use Rattle.read_tables.specs.Decode.{from_start, read_arguments, arguments_or, arguments_at}
 use Rattle.read_tables.specs.Names.{NamesFrom, CallAt, goes_is, list_goes}
 
@@ -75,8 +74,8 @@ pub record Like (s : List ℕ) (c d : Cursor) : Type 0 where
   pub open' : d.depth ≤ c.depth
 
 abbrev TakesLike : List ℕ → Taken → Taken → Type 0
-TakesLike s (At i d) u = (e : Cursor) × (u ≡ At i e) × Like s d e
-TakesLike s (Refused n i) u = 0 ≤ 0
+TakesLike s (Ok (i, d)) u = (e : Cursor) × (u ≡ Ok (i, e)) × Like s d e
+TakesLike s (Err e) u = 0 ≤ 0
 
 record TakenAgain (s : List ℕ) (t u : Taken) : Type 0 where
   is : TakesLike s t u
@@ -96,9 +95,9 @@ module _ {s : List ℕ} {A : Type 0} where
   again_refused n i u = record { is = omega arith }
 
   again_take : {t u : Taken} (f g : ℕ → Cursor → Result A) → TakenAgain s t u → ((i : ℕ) (c d : Cursor) → Like s c d → Again s (f i c) (g i d)) → Again s (on_token t f) (on_token u g)
-  again_take {t = At i c} {u = u} f g h k =
+  again_take {t = Ok (i, c)} {u = u} f g h k =
       let (d, e, l) = h.is in rw e (k i c d l)
-  again_take {t = Refused n i} {u = u} f g h k = again_refused n i (on_token u g)
+  again_take {t = Err e} {u = u} f g h k = again_refused e.number e.at (on_token u g)
 
   again_part : {B : Type 0} {r u : Result B} (f g : B → Cursor → Result A) → Again s r u → ((b : B) (c d : Cursor) → Like s c d → Again s (f b c) (g b d)) → Again s (part r f) (part u g)
   again_part {r = got b c} {u = u} f g h k =
@@ -116,12 +115,12 @@ module _ {s : List ℕ} {A : Type 0} where
 
 -- ── tokens
 abbrev taken_by : ℕ → Cursor → Token → Taken
-taken_by k c t = cond (eqb t.kind k) (At t.start (past c t)) (Refused (fault t) t.start)
+taken_by k c t = cond (eqb t.kind k) (Ok (t.start, past c t)) (refuses (fault t) t.start)
 
 by_again : (s : List ℕ) (k : ℕ) (c d : Cursor) (t : Token) → d.depth ≤ c.depth → TakenAgain s (taken_by k c t) (taken_by k d t)
 by_again s k c d t l = go (eqb t.kind k)
   where
-    go : (b : Bool) → TakenAgain s (cond b (At t.start (past c t)) (Refused (fault t) t.start)) (cond b (At t.start (past d t)) (Refused (fault t) t.start))
+    go : (b : Bool) → TakenAgain s (cond b (Ok (t.start, past c t)) (refuses (fault t) t.start)) (cond b (Ok (t.start, past d t)) (refuses (fault t) t.start))
     go true = record { is = (past d t, refl, record { same = refl; open' = l }) }
     go false = record { is = omega arith }
 
@@ -131,16 +130,16 @@ expect_again s k c d l =
     subst (λ t. TakenAgain s (taken_by k c (token_at s c.at)) (taken_by k d t)) (sym l.same) (by_again s k c d (token_at s c.at) l.open')
 
 limited_again : (s : List ℕ) (t u : Taken) → TakenAgain s t u → TakenAgain s (limited t may_open deeper) (limited u may_open deeper)
-limited_again s (At i c) u h =
+limited_again s (Ok (i, c)) u h =
     let (d, e, l) = h.is in rw e (go d l (ltb c.depth bracket_limit) refl)
   where
-    go : (d : Cursor) → Like s c d → (b : Bool) → ltb c.depth bracket_limit ≡ b → TakenAgain s (cond b (At i (deeper c)) (Refused 5 i)) (limited (At i d) may_open deeper)
+    go : (d : Cursor) → Like s c d → (b : Bool) → ltb c.depth bracket_limit ≡ b → TakenAgain s (cond b (Ok (i, deeper c)) (refuses 5 i)) (limited (Ok (i, d)) may_open deeper)
     go d l true e =
         let m = ltb-true c.depth bracket_limit e in
         let n = l.open' in
         record { is = (deeper d, rw (lt-ltb d.depth bracket_limit (omega arith)) refl, record { same = l.same; open' = omega arith }) }
     go d l false e = record { is = omega arith }
-limited_again s (Refused n i) u h = record { is = omega arith }
+limited_again s (Err z) u h = record { is = omega arith }
 
 opening_again : (s : List ℕ) (k : ℕ) (c d : Cursor) → Like s c d → TakenAgain s (opening s k c) (opening s k d)
 unfolding opening

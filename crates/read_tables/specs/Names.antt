@@ -1,6 +1,6 @@
 -- The names of a call's two lists, one after the other, as the code walks over them in the text.
 use Prim.Native.Nat.{ℕ, zero, suc, ◌<◌, ◌≤◌}
-use Rattle.std.specs.Prelude.{◌≡◌, Bool, true, false, length}
+use Rattle.std.specs.Prelude.{◌≡◌, Bool, true, false, length, Ok, Err}
 use Rattle.std.proofs.Math.Path.{refl, sym, ap}
 use Rattle.std.proofs.Common.{◌∙◌, subst, arith, eqb-true, eq-eqb, ne_eqb}
 use mathlib.Core.List.{List, [], ◌∷◌}
@@ -9,12 +9,11 @@ use Rattle.std.proofs.Math.Dec.{eqb}
 use Rattle.notation.specs.Token.{token_at, kind_at, k_name, k_comma}
 use Rattle.notation.specs.Onward.{width, Onward}
 use Rattle.notation.specs.Tree.{Located}
-use Rattle.notation.specs.Reader.{Result, got, refused, on_token, part, lastly, choose, past, fault, expect, limited, may_open, deeper, opening, name_in}
+use Rattle.notation.specs.Reader.{Result, Taken, got, refused, on_token, part, lastly, choose, past, fault, expect, limited, may_open, deeper, opening, name_in}
 use Rattle.notation.specs.Processes.{read_names, name_list}
+use Rattle.notation.specs.Refusals.{refuses}
 use Rattle.notation.specs.declared.token.Token.{Token}
 use Rattle.notation.specs.declared.reading.Cursor.{Cursor}
-use Rattle.notation.specs.declared.reading.Taken.{Taken}
-use Rattle.notation.specs.declared.reading.Taken.TheVariants.{At, Refused}
 use Rattle.read_tables.specs.declared.arguments.Argument.{Argument}
 use Rattle.read_tables.specs.declared.arguments.Argument.TheVariants.{Name, End}
 
@@ -60,9 +59,9 @@ goes_is {P = P} e h = (subst (Goes P) e h).holds
 goes_refused : {A : Type 0} {P : A → Cursor → Type 0} (n i : ℕ) → Goes P (refused n i)
 goes_refused n i = record { holds = omega arith }
 
-goes_take : {A : Type 0} {P : A → Cursor → Type 0} (t : Taken) (f : ℕ → Cursor → Result A) → ((i : ℕ) (d : Cursor) → t ≡ At i d → Goes P (f i d)) → Goes P (on_token t f)
-goes_take (At i d) f h = h i d refl
-goes_take (Refused n i) f h = goes_refused n i
+goes_take : {A : Type 0} {P : A → Cursor → Type 0} (t : Taken) (f : ℕ → Cursor → Result A) → ((i : ℕ) (d : Cursor) → t ≡ Ok (i, d) → Goes P (f i d)) → Goes P (on_token t f)
+goes_take (Ok (i, d)) f h = h i d refl
+goes_take (Err e) f h = goes_refused e.number e.at
 
 goes_part : {A B : Type 0} {Q : B → Cursor → Type 0} {P : A → Cursor → Type 0} {r : Result B} (f : B → Cursor → Result A) → Goes Q r → ((b : B) (d : Cursor) → Q b d → Goes P (f b d)) → Goes P (part r f)
 goes_part {r = got b d} f h g = g b d h.holds
@@ -87,42 +86,42 @@ record Token-of (s : List ℕ) (k : ℕ) (c : Cursor) (i : ℕ) (d : Cursor) : T
   end : (token_at s c.at).end ≡ d.at
 
 abbrev offset_of : Taken → ℕ
-offset_of (At i d) = i
-offset_of (Refused n i) = i
+offset_of (Ok (i, d)) = i
+offset_of (Err e) = e.at
 
 abbrev past_of : Taken → ℕ
-past_of (At i d) = d.at
-past_of (Refused n i) = 0
+past_of (Ok (i, d)) = d.at
+past_of (Err e) = 0
 
 abbrev is_at : Taken → Type 0
-is_at (At i d) = 0 ≤ 0
-is_at (Refused n i) = ⊥
+is_at (Ok p) = 0 ≤ 0
+is_at (Err e) = ⊥
 
-at_is : {t : Taken} {i : ℕ} {d : Cursor} → t ≡ At i d → is_at t
+at_is : {t : Taken} {i : ℕ} {d : Cursor} → t ≡ Ok (i, d) → is_at t
 at_is e = subst is_at (sym e) (omega arith)
 
-expect_at : (s : List ℕ) (k : ℕ) (c : Cursor) (i : ℕ) (d : Cursor) → expect s k c ≡ At i d → Token-of s k c i d
+expect_at : (s : List ℕ) (k : ℕ) (c : Cursor) (i : ℕ) (d : Cursor) → expect s k c ≡ Ok (i, d) → Token-of s k c i d
 unfolding expect
 expect_at s k c i d = go (eqb (kind_at s c.at) k) refl
   where
     t : Token
     t = token_at s c.at
 
-    go : (b : Bool) → eqb (kind_at s c.at) k ≡ b → cond b (At t.start (past c t)) (Refused (fault t) t.start) ≡ At i d → Token-of s k c i d
+    go : (b : Bool) → eqb (kind_at s c.at) k ≡ b → cond {A = Taken} b (Ok (t.start, past c t)) (refuses (fault t) t.start) ≡ Ok (i, d) → Token-of s k c i d
     go true q e = record { kind = eqb-true _ _ q; start = ap offset_of e; end = ap past_of e }
     go false q e = absurd (at_is e)
 
-opening_at : (s : List ℕ) (k : ℕ) (c : Cursor) (i : ℕ) (d : Cursor) → opening s k c ≡ At i d → Token-of s k c i d
+opening_at : (s : List ℕ) (k : ℕ) (c : Cursor) (i : ℕ) (d : Cursor) → opening s k c ≡ Ok (i, d) → Token-of s k c i d
 unfolding opening
 opening_at s k c i d = go (expect s k c) refl
   where
-    go : (t : Taken) → expect s k c ≡ t → limited t may_open deeper ≡ At i d → Token-of s k c i d
-    go (At j e) q = within (may_open e)
+    go : (t : Taken) → expect s k c ≡ t → limited t may_open deeper ≡ Ok (i, d) → Token-of s k c i d
+    go (Ok (j, e)) q = within (may_open e)
       where
-        within : (b : Bool) → cond b (At j (deeper e)) (Refused 5 j) ≡ At i d → Token-of s k c i d
+        within : (b : Bool) → cond {A = Taken} b (Ok (j, deeper e)) (refuses 5 j) ≡ Ok (i, d) → Token-of s k c i d
         within true p = let r = expect_at s k c j e q in record { kind = r.kind; start = r.start ∙ ap offset_of p; end = r.end ∙ ap past_of p }
         within false p = absurd (at_is p)
-    go (Refused n j) q = λ p. absurd (at_is p)
+    go (Err e) q = λ p. absurd (at_is p)
 
 -- ── what a token is to a list
 module _ (s : List ℕ) (at : ℕ) where

@@ -1,5 +1,5 @@
 // The entries of the tables, by value.
-ghost use Rattle.std.specs.Prelude.{◌≡◌, ℕ, ◌+◌, ◌-◌, ◌<◌, ◌≤◌, length, get_or};
+ghost use Rattle.std.specs.Prelude.{◌≡◌, ◌+◌, ◌-◌, ◌<◌, ◌≤◌, length, get_or};
 ghost use Rattle.notation.specs.Tables.{Area, branch_room};
 ghost use Rattle.notation.specs.Limits.{exec_limit, process_term_limit, type_term_limit, process_limit, type_limit};
 ghost use Rattle.read_tables.specs.Access.{Holds, NodeOf, TermOf, AlternativeOf, BranchOf, EntryOf, TypeOf, SignatureOf, ExecOf};
@@ -13,7 +13,12 @@ use notation::tables::{
 };
 use notation::words::wide;
 
-fn word(scratch: &[u32], i: usize) -> usize
+// How many words an entry of a type and of a process has.
+pub(crate) const TYPE_WORDS: usize = 2;
+
+pub(crate) const PROCESS_WORDS: usize = 4;
+
+pub(crate) fn word(scratch: &[u32], i: usize) -> usize
     requires { i < length scratch.now }
     ensures value { result ≡ get_or scratch.now i 0 }
     ensures upper_bound { result < 4294967296 }
@@ -74,7 +79,8 @@ pub struct Labelled {
     pub number: usize,
 }
 
-fn pair(scratch: &[u32], i: usize) -> Labelled
+// The pair in the word i.
+pub fn pair(scratch: &[u32], i: usize) -> Labelled
     requires { i < length scratch.now }
     ensures { Holds result (pair_of (get_or scratch.now i 0)) }
 {
@@ -150,7 +156,7 @@ pub fn declared_type(scratch: &[u32], i: usize) -> Labelled
     requires { Area scratch.now × (i < type_limit) }
     ensures { TypeOf scratch.now i result }
 {
-    let w = two_words(scratch, TYPES_AT + 2 * i);
+    let w = two_words(scratch, TYPES_AT + TYPE_WORDS * i);
     Labelled {
         at: w.first,
         number: w.second,
@@ -172,8 +178,8 @@ pub fn declared_process(scratch: &[u32], i: usize) -> Declared
     requires { Area scratch.now × (i < process_limit) }
     ensures { SignatureOf scratch.now i result }
 {
-    let named = two_words(scratch, PROCESSES_AT + 4 * i);
-    let counted = two_words(scratch, PROCESSES_AT + 4 * i + 2);
+    let named = two_words(scratch, PROCESSES_AT + PROCESS_WORDS * i);
+    let counted = two_words(scratch, PROCESSES_AT + PROCESS_WORDS * i + 2);
     Declared {
         at: named.first,
         first: named.second,

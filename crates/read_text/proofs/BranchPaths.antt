@@ -7,24 +7,22 @@ use native.Mathlib.Omega.{arith}
 use lib.ListN.{length, set, length-set}
 use lib.Dec.{eqb, ltb}
 use borrow.Author.Tests.{ltb-true}
+use Rattle.std.specs.Prelude.{Ok, Err}
 use Rattle.notation.specs.Fine.{FineBranches, SomeBranch}
 use Rattle.notation.specs.Limits.{label_limit}
 use Rattle.notation.specs.Token.{kind_at, k_bar, k_then, k_label}
 use Rattle.notation.specs.Tree.{Proc, Branches, branch}
-use Rattle.notation.specs.Reader.{got, on_token, part, lastly, expect, then_token, label_in}
+use Rattle.notation.specs.Reader.{Taken, got, on_token, part, lastly, expect, then_token, label_in}
 use Rattle.notation.specs.Types.{label_term}
 use Rattle.notation.specs.Processes.{branches_by, more_branches_by, read_process, read_branches}
 use Rattle.notation.specs.Tables.{branches_at, pair_word, put_branch, pointer_to, after_process, write_process, after_branches, write_branches}
+use Rattle.notation.specs.declared.refusal.Refusal.{Refusal}
 use Rattle.notation.specs.declared.reading.Cursor.{Cursor}
 use Rattle.notation.specs.declared.reading.Tally.{Tally}
-use Rattle.notation.specs.declared.reading.Taken.{Taken}
-use Rattle.notation.specs.declared.reading.Taken.TheVariants.{At, Refused}
-use Rattle.read_types.specs.declared.steps.Out.{Out}
-use Rattle.read_types.specs.declared.steps.Out.TheVariants.{Got, Not}
-use Rattle.read_types.specs.Filling.{Kept, Stepped, ListPut, list_put, as_out, Room, Form, Meets, unread}
+use Rattle.read_types.specs.Filling.{Out, Kept, Stepped, ListPut, list_put, Room, Form, Meets, unread}
 use Rattle.read_types.proofs.Listing.{list_none, list_more}
 use Rattle.read_types.proofs.TypePaths.{then_take}
-use Rattle.read_types.proofs.Filled.{same, ◌upon◌, took, refused_out, made_got, gone_on, stopped, more_no, more_got, more_made}
+use Rattle.read_types.proofs.Filled.{same, ◌upon◌, took, made_got, gone_on, stopped, more_no, more_got, more_made}
 use Rattle.read_text.specs.Turns.{peek, AheadProcess, ProcessRead}
 use Rattle.read_text.specs.Processes.{label_then, BranchesRead}
 use Rattle.read_text.proofs.Turning.{limit_held, made_as, meets_as, lastly_same}
@@ -88,9 +86,9 @@ keeping_start {s} {w} {c} {k} kept e h = record {
 }
 
 -- a branch that is read comes within its list's limit
-pub branch_few : (s : List ℕ) (n : ℕ) (c : Cursor) {q : Taken} {i : ℕ} {d : Cursor} → Stepped s c 4 0 0 (label_then s n c) q → q ≡ At i d → n < label_limit
+pub branch_few : (s : List ℕ) (n : ℕ) (c : Cursor) {q : Taken} {i : ℕ} {d : Cursor} → Stepped s c 4 0 0 (label_then s n c) q → q ≡ Ok (i, d) → n < label_limit
 unfolding label_then label_term
-branch_few s n c u e = ltb-true n label_limit (limit_held (λ x. then_token x (expect s k_then)) (λ m i. refl) (expect s k_label c) (ltb n label_limit) (took u e))
+branch_few s n c u e = ltb-true n label_limit (limit_held (λ x. then_token x (expect s k_then)) (λ y. refl) (expect s k_label c) (ltb n label_limit) (took u e))
 
 module _ {s w₀ : List ℕ} {c₀ : Cursor} {k₀ : Tally} (kept w : List ℕ) (c : Cursor) (k : Tally) (n : ℕ) (h : Keeping s w₀ c₀ k₀ kept w c k n) {q : Taken}
     (u : Stepped s c 4 0 0 (label_then s n c) q) where
@@ -99,17 +97,17 @@ module _ {s w₀ : List ℕ} {c₀ : Cursor} {k₀ : Tally} (kept w : List ℕ) 
   unfolding label_then branches_by read_process
   branches_is m = sym (then_take (label_term s n c) (expect s k_then) _)
 
-  pub branches_no : {r : Out} {j i : ℕ} → q ≡ Refused j i → r ≡ as_out q → BranchesRead s w₀ c₀ k₀ r w
-  branches_no g x = h.whole _ w (more_no (kept_form kept n) s w c k (λ m. read_branches m s n c) (refused_out g x) same (λ m _. branches_is m ∙ rw (took u g)))
+  pub branches_no : {r : Out} {y : Refusal} → q ≡ Err y → r ≡ Err y → BranchesRead s w₀ c₀ k₀ r w
+  branches_no g x = h.whole _ w (more_no (kept_form kept n) s w c k (λ m. read_branches m s n c) x same (λ m _. branches_is m ∙ rw (took u g)))
 
-  module _ {i : ℕ} {d : Cursor} (e : q ≡ At i d) {p : Out} {v : List ℕ} (t : ProcessRead s w d k p v) where
-    pub branches_inner_no : {j x : ℕ} → p ≡ Not j x → BranchesRead s w₀ c₀ k₀ p v
-    branches_inner_no g =
+  module _ {i : ℕ} {d : Cursor} (e : q ≡ Ok (i, d)) {p : Out} {v : List ℕ} (t : ProcessRead s w d k p v) where
+    pub branches_inner_no : {r : Out} {y : Refusal} → p ≡ Err y → r ≡ Err y → BranchesRead s w₀ c₀ k₀ r v
+    branches_inner_no g r-is =
         let o = u.on i d e in
-        h.whole p v (more_no (kept_form kept n) s w c k (λ m. read_branches m s n c) g t.kept
+        h.whole _ v (more_no (kept_form kept n) s w c k (λ m. read_branches m s n c) r-is t.kept
         (λ m lo. branches_is m ∙ rw (took u e, stopped (read_process m s d) (t.is m (omega arith)) g)))
 
-    module _ {f : Cursor} {l : Tally} (g : p ≡ Got f l) {to x : ℕ} (ep : to ≡ peek s d.at k.terms) (ex : x ≡ pair_word i to) where
+    module _ {f : Cursor} {l : Tally} (g : p ≡ Ok (f, l)) {to x : ℕ} (ep : to ≡ peek s d.at k.terms) (ex : x ≡ pair_word i to) where
       -- one more kept is one branch more written
       kept_more : (m : ℕ) (P : Proc) (B : Branches) → read_process m s d ≡ got P f → l ≡ after_process P k → v ≡ write_process P k w
           → (listed (n + 1) (after_branches B l) ≡ listed n (after_branches (branch (label_in s i) P B) k))
@@ -130,13 +128,13 @@ module _ {s w₀ : List ℕ} {c₀ : Cursor} {k₀ : Tally} (kept w : List ℕ) 
           )
 
       module _ (bar : eqb (kind_at s f.at) k_bar ≡ true) {z : Taken} (y : Stepped s f 1 0 0 (expect s k_bar f) z) where
-        pub branches_bar_no : {r : Out} {j a : ℕ} → z ≡ Refused j a → r ≡ as_out z → BranchesRead s w₀ c₀ k₀ r v
+        pub branches_bar_no : {r : Out} {y : Refusal} → z ≡ Err y → r ≡ Err y → BranchesRead s w₀ c₀ k₀ r v
         branches_bar_no a b =
             let o = u.on i d e in
-            h.whole _ v (more_no (kept_form kept n) s w c k (λ m. read_branches m s n c) (refused_out a b) t.kept
+            h.whole _ v (more_no (kept_form kept n) s w c k (λ m. read_branches m s n c) b t.kept
             (λ m lo. gone_on (read_process m s d) (t.is m (omega arith)) g λ P b₂ _ _ _. branches_is m ∙ rw (took u e, b₂, bar, took y a)))
 
-        module _ {j : ℕ} {b : Cursor} (a : z ≡ At j b) where
+        module _ {j : ℕ} {b : Cursor} (a : z ≡ Ok (j, b)) where
           branches_whole : (r : Out) (y₂ : List ℕ) → Meets (kept_form (set kept n x) (n + 1)) s v b l (3 * unread s b + 1) (λ m. read_branches m s (n + 1) b) r y₂
               → Meets (kept_form kept n) s w c k (3 * unread s c + 1) (λ m. read_branches m s n c) r y₂
           unfolding FineBranches
@@ -174,7 +172,7 @@ module _ {s w₀ : List ℕ} {c₀ : Cursor} {k₀ : Tally} (kept w : List ℕ) 
               }
 
       pub branches_end : eqb (kind_at s f.at) k_bar ≡ false → {v₂ : List ℕ} → ListPut v (set kept n x) (n + 1) (branches_at + l.branches) v₂
-          → BranchesRead s w₀ c₀ k₀ (Got f (filled l (l.branches + (n + 1)) (n + 1))) v₂
+          → BranchesRead s w₀ c₀ k₀ (Ok (f, filled l (l.branches + (n + 1)) (n + 1))) v₂
       unfolding after_branches write_branches FineBranches
       branches_end bar {v₂} pt =
           let o = u.on i d e in
@@ -186,4 +184,4 @@ module _ {s w₀ : List ℕ} {c₀ : Cursor} {k₀ : Tally} (kept w : List ℕ) 
           (λ m lo. gone_on (read_process m s d) (t.is m (omega arith)) g λ P b₂ al av fi.
           let more = kept_more m P Branches.none b₂ al av in
           made_got (branch (label_in s i) P Branches.none) (branches_is m ∙ rw (took u e, b₂, bar))
-          (ap (Got f) (filled_path l refl (omega arith) ∙ more.0)) (pt.words ∙ more.1) ((omega arith, fi, omega arith), omega arith)))
+          (ap (λ x. Ok (f, x)) (filled_path l refl (omega arith) ∙ more.0)) (pt.words ∙ more.1) ((omega arith, fi, omega arith), omega arith)))

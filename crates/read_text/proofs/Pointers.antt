@@ -5,16 +5,16 @@ use mathlib.Core.Bool.{Bool, true, false, cond}
 use Prim.Native.Nat.{ℕ, zero, suc}
 use native.Mathlib.Omega.{arith}
 use lib.Dec.{eqb}
+use Rattle.std.specs.Prelude.{Ok, Err}
 use Rattle.notation.specs.Token.{token_at, kind_at, k_name, k_send, k_recv, k_fwd, k_call, k_cancel, k_raise, k_try, k_catch, k_colon, k_from, k_round_open, k_round_close, k_square_open, k_square_close}
 use Rattle.notation.specs.Tree.{Located, Ty, Proc, empty, fwd, call, try, Branches}
-use Rattle.notation.specs.Reader.{Result, got, refused, on_token, part, lastly, expect, limited, may_open, deeper, past, fault, opening, process_term, misfit, name_in}
+use Rattle.notation.specs.Refusals.{refuses}
+use Rattle.notation.specs.Reader.{Result, Taken, got, refused, on_token, part, lastly, expect, limited, may_open, deeper, past, fault, opening, process_term, misfit, name_in}
 use Rattle.notation.specs.Processes.{term_head, payload, unit_taken, bracketed_by, send_by, recv_by, name_list, process_by, read_process, read_rest, read_branches}
 use Rattle.notation.specs.Types.{read_type}
 use Rattle.notation.specs.Tables.{pointer_to, empty_pointer}
 use Rattle.notation.specs.declared.token.Token.{Token}
 use Rattle.notation.specs.declared.reading.Cursor.{Cursor}
-use Rattle.notation.specs.declared.reading.Taken.{Taken}
-use Rattle.notation.specs.declared.reading.Taken.TheVariants.{At, Refused}
 use Rattle.notation.specs.declared.token.TermHead.{TermHead}
 use Rattle.notation.specs.declared.token.TermHead.TheVariants.{Send, Recv, Fwd, Call, Cancel, Raise, Try, Spawn, Empty}
 use Rattle.notation.specs.declared.token.Payload.{Payload}
@@ -24,9 +24,9 @@ use Rattle.read_text.specs.Turns.{peek, peek_by}
 
 -- what was read was read step by step
 module _ {B : Type 0} {b : B} {d : Cursor} {P : Type 0} where
-  pub take_got : (q : Taken) (f : ℕ → Cursor → Result B) → on_token q f ≡ got b d → ((i : ℕ) (c : Cursor) → q ≡ At i c → f i c ≡ got b d → P) → P
-  take_got (At i c) f e go = go i c refl e
-  take_got (Refused n i) f e go = absurd (let z : ◌≡◌ {A = ℕ} 0 1 = cc in omega arith)
+  pub take_got : (q : Taken) (f : ℕ → Cursor → Result B) → on_token q f ≡ got b d → ((i : ℕ) (c : Cursor) → q ≡ Ok (i, c) → f i c ≡ got b d → P) → P
+  take_got (Ok (i, c)) f e go = go i c refl e
+  take_got (Err y) f e go = absurd (let z : ◌≡◌ {A = ℕ} 0 1 = cc in omega arith)
 
   pub part_got : {A : Type 0} (x : Result A) (f : A → Cursor → Result B) → part x f ≡ got b d → ((a : A) (c : Cursor) → x ≡ got a c → f a c ≡ got b d → P) → P
   part_got (got a c) f e go = go a c refl e
@@ -106,31 +106,16 @@ pointer_at zero s c d P n e = absurd (let z : ◌≡◌ {A = ℕ} 0 1 = cc in om
 pointer_at (suc m) s c d P n e =
     pointer_by (λ x. read_type m s x) (λ x. read_process m s x) (λ x. read_rest m s x) (λ x. read_branches m s 0 x) m s c d P n (term_head (kind_at s c.at)) e
 
--- the same by the token and its head
-module _ (s : List ℕ) (at n : ℕ) {t : Token} (e : t ≡ token_at s at) where
-  peek_is : {h : TermHead} → h ≡ term_head t.kind → peek s at n ≡ peek_by h t.start n
-  unfolding peek
-  peek_is q = ap (λ (x : Token). peek_by (term_head x.kind) x.start n) (sym e) ∙ ap (λ h. peek_by h t.start n) (sym q)
-
-  pub peek_empty : {h : TermHead} → h ≡ term_head t.kind → h ≡ Empty → empty_pointer t.start ≡ peek s at n
-  peek_empty q z = sym (peek_is q ∙ ap (λ h. peek_by h t.start n) z)
-
-  pub peek_node : {h : TermHead} → h ≡ term_head t.kind → peek_by h t.start n ≡ n → n ≡ peek s at n
-  peek_node q z = sym (peek_is q ∙ z)
-
-  pub peek_past : {r : ℕ} → r ≡ peek s t.end n → r ≡ peek s (token_at s at).end n
-  peek_past q = q ∙ ap (λ (x : Token). peek s x.end n) e
-
 -- past a bracket that opens
-opening_end : (s : List ℕ) (k : ℕ) (c : Cursor) {i : ℕ} {d : Cursor} → opening s k c ≡ At i d → d.at ≡ (token_at s c.at).end
+opening_end : (s : List ℕ) (k : ℕ) (c : Cursor) {i : ℕ} {d : Cursor} → opening s k c ≡ Ok (i, d) → d.at ≡ (token_at s c.at).end
 unfolding opening expect
 opening_end s k c {i} {d} = go (eqb (token_at s c.at).kind k) (token_at s c.at)
   where
-    deep : (b : Bool) (j : ℕ) (f : Cursor) → cond b (At j f) (Refused 5 j) ≡ At i d → d.at ≡ f.at
-    deep true j f e = let z : d ≡ f = cc in ap (λ x. x.at) z
+    deep : (b : Bool) (j : ℕ) (f : Cursor) → cond {A = Taken} b (Ok (j, f)) (refuses 5 j) ≡ Ok (i, d) → d.at ≡ f.at
+    deep true j f e = let both : ◌≡◌ {A = ℕ × Cursor} (j, f) (i, d) = cc in sym (ap (λ x. x.1.at) both)
     deep false j f e = never e
 
-    go : (b : Bool) (t : Token) → limited (cond b (At t.start (past c t)) (Refused (fault t) t.start)) may_open deeper ≡ At i d → d.at ≡ t.end
+    go : (b : Bool) (t : Token) → limited (cond b (Ok (t.start, past c t)) (refuses (fault t) t.start)) may_open deeper ≡ Ok (i, d) → d.at ≡ t.end
     go true t e = deep (may_open (past c t)) t.start (deeper (past c t)) e
     go false t e = never e
 

@@ -3,33 +3,32 @@ use mathlib.Core.Path.{◌≡◌, refl, ap, sym, subst, ◌∙◌}
 use mathlib.Core.List.{List}
 use Prim.Native.Nat.{ℕ, suc, ◌+◌, ◌*◌, ◌<◌, ◌≤◌}
 use native.Mathlib.Omega.{arith}
+use Rattle.std.specs.Prelude.{Ok, Err}
 use Rattle.notation.specs.Fine.{FineProcess}
 use Rattle.notation.specs.Limits.{text_limit}
 use Rattle.notation.specs.Token.{kind_at, token_at, k_name, k_then, k_round_open, k_round_close, k_recv, k_try, k_catch, k_from, k_colon}
 use Rattle.notation.specs.Tree.{Located, Ty, Proc, spawn, recv_label, try}
-use Rattle.notation.specs.Reader.{Result, got, refused, on_token, part, lastly, expect, misfit, opening, process_term, closed, name_in}
+use Rattle.notation.specs.Refusals.{OrRefusal}
+use Rattle.notation.specs.Reader.{Result, Taken, got, refused, on_token, part, lastly, expect, misfit, opening, process_term, closed, name_in}
 use Rattle.notation.specs.Types.{read_type}
 use Rattle.notation.specs.Processes.{term_head, payload, unit_taken, bracketed_by, recv_by, process_by, read_process, read_rest, read_branches}
 use Rattle.notation.specs.Tables.{more_terms, term_node, put_term, pointer_to, after_type, write_type, after_process, after_branches, write_process}
+use Rattle.notation.specs.declared.refusal.Refusal.{Refusal}
 use Rattle.notation.specs.declared.reading.Cursor.{Cursor}
 use Rattle.notation.specs.declared.reading.Tally.{Tally}
 use Rattle.notation.specs.declared.reading.TermNode.{TermNode}
-use Rattle.notation.specs.declared.reading.Taken.{Taken}
-use Rattle.notation.specs.declared.reading.Taken.TheVariants.{At, Refused}
 use Rattle.notation.specs.declared.token.TermHead.{TermHead}
 use Rattle.notation.specs.declared.token.TermHead.TheVariants.{Recv, Try, Spawn, Empty}
 use Rattle.notation.specs.declared.token.Payload.{Payload}
 use Rattle.notation.specs.declared.token.Payload.TheVariants.{Unit as UnitPayload, Channel, Label, Other}
-use Rattle.read_types.specs.declared.steps.Out.{Out}
-use Rattle.read_types.specs.declared.steps.Out.TheVariants.{Got, Not}
-use Rattle.read_types.specs.Filling.{TypeRead, Further, Stepped, Closes, not_read, not_closed, read, as_out, misfit_out, Room, Form, Meets, unread}
+use Rattle.read_types.specs.Filling.{Out, TypeRead, Further, Stepped, Closes, not_read, not_closed, read, misfit_refusal, Room, Form, Meets, unread}
 use Rattle.read_types.proofs.TypePaths.{then_take}
-use Rattle.read_types.proofs.Filled.{same, ◌upon◌, took, refused_out, made_got, gone_on, stopped, meets_no, meets_got, more_made}
+use Rattle.read_types.proofs.Filled.{same, ◌upon◌, took, made_got, gone_on, stopped, meets_no, meets_got, more_made}
 use Rattle.read_text.specs.declared.turns.Turn.{Turn}
 use Rattle.read_text.specs.declared.turns.Turn.TheVariants.{Done}
 use Rattle.read_text.specs.Turns.{peek, pointing, process_form, term_form, node_form, ProcessRead, TurnRead, RestTurned}
 use Rattle.read_text.specs.Processes.{payload_taken, payload_then, name_colon, payload_node, recvd_of, recvd_node, NoLabel, term_by, parts_form, parts_by, TermRead, TermTurned, HandlerRead, OneRead, LabelsRead, BracketedRead, PartsTurned, BranchesRead}
-use Rattle.read_text.proofs.Turning.{term_kept, made_as, meets_as, turn_done, turn_under}
+use Rattle.read_text.proofs.Turning.{turn_no, term_kept, made_as, meets_as, turn_done, turn_under}
 use Rattle.read_text.proofs.Pointers.{pointer_at, pointer_in}
 use Rattle.read_text.proofs.Order.{Inside, process_grown, type_put, process_put, branches_put}
 
@@ -40,21 +39,21 @@ module _ {F G : Form Proc} {s w : List ℕ} {c₀ c d : Cursor} {k k' : Tally} {
     (alike : (P : Proc) → (F.after P k' ≡ G.after P k) × (F.write P k' w ≡ G.write P k w) × (F.Fine P → G.Fine P)) where
   closed_meets : ((g h : Cursor) (i : ℕ) (l : Tally) → F.Ahead s d k' g l → Further s g 1 0 0 i h → G.Ahead s c₀ k (closed c h) l) → {r : Out}
       → Closes s c p r → Meets G s w c₀ k b f r v
-  closed_meets ahead (not_read g h) = meets_no s w c₀ k (h ∙ g) t.kept (λ m lo. (is m lo).0 ∙ rw (stopped (sub m) (t.is m (is m lo).1) g))
+  closed_meets ahead (not_read g h) = meets_no s w c₀ k h t.kept (λ m lo. (is m lo).0 ∙ rw (stopped (sub m) (t.is m (is m lo).1) g))
   closed_meets ahead (not_closed g y z h) =
-      meets_no s w c₀ k (refused_out z h) t.kept (λ m lo. gone_on (sub m) (t.is m (is m lo).1) g λ P a _ _ _. (is m lo).0 ∙ rw (a, took y z))
+      meets_no s w c₀ k h t.kept (λ m lo. gone_on (sub m) (t.is m (is m lo).1) g λ P a _ _ _. (is m lo).0 ∙ rw (a, took y z))
   closed_meets ahead (read {e = e} {b = g₂} {l = l} {j = j} g y z h) =
       rw h
       (meets_got s w c₀ k (ahead e g₂ j l (t.on e l g) (y.on j g₂ z)) t.kept
       (λ m lo. gone_on (sub m) (t.is m (is m lo).1) g λ P a al av fi.
-      made_got P ((is m lo).0 ∙ rw (a, took y z)) (ap (Got (closed c g₂)) (al ∙ (alike P).0)) (av ∙ (alike P).1) ((alike P).2 fi)))
+      made_got P ((is m lo).0 ∙ rw (a, took y z)) (ap (λ x. Ok (closed c g₂, x)) (al ∙ (alike P).0)) (av ∙ (alike P).1) ((alike P).2 fi)))
 
 module _ (s w : List ℕ) (c : Cursor) (k : Tally) (room : Room s w c k) {q : Taken} (u : Stepped s c 1 0 0 (opening s k_round_open c) q) where
-  pub bracketed_no : {r : Out} {n i : ℕ} → q ≡ Refused n i → r ≡ as_out q → BracketedRead s w c k r w
+  pub bracketed_no : {r : Out} {y : Refusal} → q ≡ Err y → r ≡ Err y → BracketedRead s w c k r w
   unfolding bracketed_by
-  bracketed_no g h = meets_no s w c k (refused_out g h) same (λ m _. rw (took u g))
+  bracketed_no g h = meets_no s w c k h same (λ m _. rw (took u g))
 
-  pub bracketed_closed : {i : ℕ} {d : Cursor} → q ≡ At i d → {p : Out} {v : List ℕ} → ProcessRead s w d k p v → {r : Out} → Closes s c p r
+  pub bracketed_closed : {i : ℕ} {d : Cursor} → q ≡ Ok (i, d) → {p : Out} {v : List ℕ} → ProcessRead s w d k p v → {r : Out} → Closes s c p r
       → BracketedRead s w c k r v
   unfolding bracketed_by
   bracketed_closed {i} {d} e t =
@@ -63,21 +62,21 @@ module _ (s w : List ℕ) (c : Cursor) (k : Tally) (room : Room s w c k) {q : Ta
 
 -- ── recv
 module _ (s w : List ℕ) (c : Cursor) (k : Tally) (room : Room s w c k) {q : Taken} (u : Stepped s c 1 0 1 (process_term s k_recv c) q) where
-  pub recv_no : {r : Out} {n i : ℕ} → q ≡ Refused n i → r ≡ as_out q → TermRead Recv s w c k r w
+  pub recv_no : {r : Out} {y : Refusal} → q ≡ Err y → r ≡ Err y → TermRead Recv s w c k r w
   unfolding process_by
-  recv_no g h = meets_no s w c k (refused_out g h) same (λ m _. rw (took u g))
+  recv_no g h = meets_no s w c k h same (λ m _. rw (took u g))
 
-  module _ {at : ℕ} {d : Cursor} (e : q ≡ At at d) {x : Taken} (y : Stepped s d 1 0 0 (expect s k_name d) x) where
-    pub recv_name_no : {r : Out} {n i : ℕ} → x ≡ Refused n i → r ≡ as_out x → TermRead Recv s w c k r w
+  module _ {at : ℕ} {d : Cursor} (e : q ≡ Ok (at, d)) {x : Taken} (y : Stepped s d 1 0 0 (expect s k_name d) x) where
+    pub recv_name_no : {r : Out} {y : Refusal} → x ≡ Err y → r ≡ Err y → TermRead Recv s w c k r w
     unfolding process_by
-    recv_name_no g h = meets_no s w c k (refused_out g h) same (λ m _. rw (took u e, took y g))
+    recv_name_no g h = meets_no s w c k h same (λ m _. rw (took u e, took y g))
 
-    module _ {i : ℕ} {f : Cursor} (g : x ≡ At i f) {z : Taken} (a : Stepped s f 1 0 0 (opening s k_round_open f) z) where
-      pub recv_open_no : {r : Out} {n j : ℕ} → z ≡ Refused n j → r ≡ as_out z → TermRead Recv s w c k r w
+    module _ {i : ℕ} {f : Cursor} (g : x ≡ Ok (i, f)) {z : Taken} (a : Stepped s f 1 0 0 (opening s k_round_open f) z) where
+      pub recv_open_no : {r : Out} {y : Refusal} → z ≡ Err y → r ≡ Err y → TermRead Recv s w c k r w
       unfolding process_by
-      recv_open_no h l = meets_no s w c k (refused_out h l) same (λ m _. rw (took u e, took y g, took a h))
+      recv_open_no h l = meets_no s w c k l same (λ m _. rw (took u e, took y g, took a h))
 
-      pub recv_closed : {j : ℕ} {b : Cursor} → z ≡ At j b → {p : Out} {v : List ℕ} → HandlerRead at i s w b k p v → {r : Out} → Closes s f p r
+      pub recv_closed : {j : ℕ} {b : Cursor} → z ≡ Ok (j, b) → {p : Out} {v : List ℕ} → HandlerRead at i s w b k p v → {r : Out} → Closes s f p r
           → TermRead Recv s w c k r v
       unfolding process_by
       recv_closed {j} {b} h t =
@@ -106,7 +105,7 @@ module _ (s w : List ℕ) (c : Cursor) (k : Tally) (at i : ℕ) where
   unfolding recv_by
   handler_label e = handler_as_lem e (λ m. refl)
 
-  pub handler_other : {r : Out} → payload (kind_at s c.at) ≡ Other → r ≡ misfit_out s c → HandlerRead at i s w c k r w
+  pub handler_other : {r : Out} → payload (kind_at s c.at) ≡ Other → r ≡ Err (misfit_refusal s c) → HandlerRead at i s w c k r w
   unfolding recv_by misfit
   handler_other e h = meets_no s w c (more_terms k) h same (λ m _. rw e)
 
@@ -137,10 +136,10 @@ received_fine s Other at i j P a b d f = (a, b, f)
 
 module _ (s w : List ℕ) (c : Cursor) (k : Tally) (room : Room s w c (more_terms k)) (at i : ℕ) (a : at < text_limit) (b : i < text_limit) where
   module _ (h : Payload) {q : Taken} (u : Stepped s c 3 0 0 (payload_then s c h) q) where
-    pub one_no : {r : Out} {n j : ℕ} → q ≡ Refused n j → r ≡ as_out q → OneRead at i h s w c k r w
-    one_no g y = meets_no s w c (more_terms k) (refused_out g y) same (λ m _. rw (took u g))
+    pub one_no : {r : Out} {y : Refusal} → q ≡ Err y → r ≡ Err y → OneRead at i h s w c k r w
+    one_no g y = meets_no s w c (more_terms k) y same (λ m _. rw (took u g))
 
-    pub one_read : NoLabel h → {j : ℕ} {d : Cursor} → q ≡ At j d → {node : TermNode} → node ≡ recvd_node h at i j → {v : List ℕ}
+    pub one_read : NoLabel h → {j : ℕ} {d : Cursor} → q ≡ Ok (j, d) → {node : TermNode} → node ≡ recvd_node h at i j → {v : List ℕ}
         → v ≡ put_term w k.terms (pointing node (peek s d.at (k.terms + 1)))
         → {p : Out} {v₂ : List ℕ} → ProcessRead s v d (more_terms k) p v₂ → OneRead at i h s w c k p v₂
     one_read n {j} {d} e {node} ne x t =
@@ -158,11 +157,11 @@ module _ (s w : List ℕ) (c : Cursor) (k : Tally) (room : Room s w c (more_term
 
   -- ── a branch for each label
   module _ {p : Out} {v : List ℕ} (t : BranchesRead s w c (more_terms k) p v) where
-    pub labels_no : {n x : ℕ} → p ≡ Not n x → LabelsRead at i s w c k p v
-    labels_no g = meets_no s w c (more_terms k) g t.kept (λ m lo. ap (lastly (recv_label at (name_in s i))) (stopped (read_branches m s 0 c) (t.is m lo) g))
+    pub labels_no : {r : Out} {y : Refusal} → p ≡ Err y → r ≡ Err y → LabelsRead at i s w c k r v
+    labels_no g r-is = meets_no s w c (more_terms k) r-is t.kept (λ m lo. ap (lastly (recv_label at (name_in s i))) (stopped (read_branches m s 0 c) (t.is m lo) g))
 
-    pub labels_got : {d : Cursor} {l : Tally} → p ≡ Got d l → {v₂ : List ℕ} → v₂ ≡ put_term v k.terms (term_node 8 at i l.branches l.last)
-        → LabelsRead at i s w c k (Got d l) v₂
+    pub labels_got : {d : Cursor} {l : Tally} → p ≡ Ok (d, l) → {v₂ : List ℕ} → v₂ ≡ put_term v k.terms (term_node 8 at i l.branches l.last)
+        → LabelsRead at i s w c k (Ok (d, l)) v₂
     unfolding after_process write_process FineProcess
     labels_got {d} {l} g x =
         let o = t.on d l g in
@@ -170,7 +169,7 @@ module _ (s w : List ℕ) (c : Cursor) (k : Tally) (room : Room s w c (more_term
         meets_got s w c (more_terms k) (omega arith) (term_kept v k.terms (term_node 8 at i l.branches l.last) (omega arith) x upon t.kept)
         (λ m lo. gone_on (read_branches m s 0 c) (t.is m lo) g λ B e al av fi.
         let e₂ = after_branches B (more_terms k) in
-        made_got (recv_label at (name_in s i) B) (ap (lastly (recv_label at (name_in s i))) e) (ap (Got d) al)
+        made_got (recv_label at (name_in s i) B) (ap (lastly (recv_label at (name_in s i))) e) (ap (λ x. Ok (d, x)) al)
         (x
         ∙ (λ j. put_term (av j) k.terms (term_node 8 at i (al j).branches (al j).last))
         ∙ sym (branches_put B (more_terms k) w k.terms (term_node 8 at i e₂.branches e₂.last) (omega arith) (subst Inside al inside)))
@@ -182,26 +181,26 @@ part_last h (got a d) = refl
 part_last h (refused n i) = refl
 
 module _ (s w : List ℕ) (c : Cursor) (k : Tally) (room : Room s w c k) {q : Taken} (u : Stepped s c 1 0 1 (process_term s k_try c) q) where
-  pub try_no : {r : Out} {n i : ℕ} → q ≡ Refused n i → r ≡ as_out q → TermRead Try s w c k r w
+  pub try_no : {r : Out} {y : Refusal} → q ≡ Err y → r ≡ Err y → TermRead Try s w c k r w
   unfolding process_by
-  try_no g h = meets_no s w c k (refused_out g h) same (λ m _. rw (took u g))
+  try_no g h = meets_no s w c k h same (λ m _. rw (took u g))
 
-  module _ {at : ℕ} {d : Cursor} (e : q ≡ At at d) {p : Out} {v : List ℕ} (t : BracketedRead s w d (more_terms k) p v) where
-    pub try_main_no : {n i : ℕ} → p ≡ Not n i → TermRead Try s w c k p v
+  module _ {at : ℕ} {d : Cursor} (e : q ≡ Ok (at, d)) {p : Out} {v : List ℕ} (t : BracketedRead s w d (more_terms k) p v) where
+    pub try_main_no : {r : Out} {y : Refusal} → p ≡ Err y → r ≡ Err y → TermRead Try s w c k r v
     unfolding process_by
-    try_main_no g =
+    try_main_no g r-is =
         let o = u.on at d e in
-        meets_no s w c k g t.kept (λ m lo. rw (took u e, stopped (bracketed_by (λ d. read_process m s d) s d) (t.is m (omega arith)) g))
+        meets_no s w c k r-is t.kept (λ m lo. rw (took u e, stopped (bracketed_by (λ d. read_process m s d) s d) (t.is m (omega arith)) g))
 
-    module _ {f : Cursor} {l : Tally} (g : p ≡ Got f l) {x : Taken} (y : Stepped s f 1 0 0 (expect s k_catch f) x) where
-      pub try_catch_no : {r : Out} {n i : ℕ} → x ≡ Refused n i → r ≡ as_out x → TermRead Try s w c k r v
+    module _ {f : Cursor} {l : Tally} (g : p ≡ Ok (f, l)) {x : Taken} (y : Stepped s f 1 0 0 (expect s k_catch f) x) where
+      pub try_catch_no : {r : Out} {y : Refusal} → x ≡ Err y → r ≡ Err y → TermRead Try s w c k r v
       unfolding process_by
       try_catch_no z h =
           let o = u.on at d e in
-          meets_no s w c k (refused_out z h) t.kept
+          meets_no s w c k h t.kept
           (λ m lo. gone_on (bracketed_by (λ d. read_process m s d) s d) (t.is m (omega arith)) g λ P a _ _ _. rw (took u e, a, took y z))
 
-      module _ {i : ℕ} {b : Cursor} (z : x ≡ At i b) {second third : ℕ} (sp : second ≡ peek s (token_at s d.at).end (k.terms + 1))
+      module _ {i : ℕ} {b : Cursor} (z : x ≡ Ok (i, b)) {second third : ℕ} (sp : second ≡ peek s (token_at s d.at).end (k.terms + 1))
           (tp : third ≡ peek s (token_at s b.at).end l.terms) {v₂ : List ℕ}
           (put : v₂ ≡ put_term v k.terms (term_node 12 at 0 second third)) where
         -- the node between the halves is the one before them
@@ -239,10 +238,10 @@ module _ (s w : List ℕ) (c : Cursor) (k : Tally) (room : Room s w c k) {q : Ta
 
 -- ── the two halves of a spawn
 module _ (s w : List ℕ) (c : Cursor) (k : Tally) (room : Room s w c k) (i at : ℕ) {p : Out} {v : List ℕ} (t : BracketedRead s w c k p v) where
-  pub parts_no : {n j : ℕ} → p ≡ Not n j → PartsTurned i at s w c k (Done p) v
-  parts_no g = turn_done (meets_no s w c k g t.kept (λ m lo. rw (stopped (bracketed_by (λ d. read_process m s d) s c) (t.is m (omega arith)) g)))
+  pub parts_no : {t : OrRefusal Turn} {y : Refusal} → p ≡ Err y → t ≡ Err y → PartsTurned i at s w c k t v
+  parts_no g r-is = turn_no r-is (meets_no s w c k refl t.kept (λ m lo. rw (stopped (bracketed_by (λ d. read_process m s d) s c) (t.is m (omega arith)) g)))
 
-  module _ {d : Cursor} {l : Tally} (g : p ≡ Got d l) {second : ℕ} (sp : second ≡ peek s (token_at s c.at).end k.terms) where
+  module _ {d : Cursor} {l : Tally} (g : p ≡ Ok (d, l)) {second : ℕ} (sp : second ≡ peek s (token_at s c.at).end k.terms) where
     parts_whole : (r : Out) (y : List ℕ) → Meets (node_form i (term_node 5 at k.last second 0)) s v d l (3 * unread s d + 1) (λ m. read_rest m s d) r y
         → Meets (parts_form i at) s w c k (3 * unread s c + 1) (parts_by s c) r y
     parts_whole r y z =
@@ -261,7 +260,7 @@ module _ (s w : List ℕ) (c : Cursor) (k : Tally) (room : Room s w c k) (i at :
           on = λ b l₂ h. let o₂ = z.on b l₂ h in omega arith;
         }
 
-    pub parts_on : {t₂ : Turn} {v₂ : List ℕ} → RestTurned i (term_node 5 at k.last second 0) s v d l t₂ v₂ → PartsTurned i at s w c k t₂ v₂
+    pub parts_on : {t₂ : OrRefusal Turn} {v₂ : List ℕ} → RestTurned i (term_node 5 at k.last second 0) s v d l t₂ v₂ → PartsTurned i at s w c k t₂ v₂
     parts_on {t₂} z = let o = t.on d l g in turn_under t₂ (omega arith) t.kept parts_whole z
 
 -- ── spawn
@@ -285,23 +284,23 @@ module _ (s w : List ℕ) (c : Cursor) (k : Tally) (room : Room s w c k) {q : Ta
   unfolding name_colon process_by
   spawn_is m = sym (then_take (process_term s k_name c) (expect s k_colon) _)
 
-  pub spawn_no : {r : Out} {n i : ℕ} → q ≡ Refused n i → r ≡ as_out q → TermTurned Spawn s w c k (Done r) w
-  spawn_no g h = turn_done (meets_no s w c k (refused_out g h) same (λ m _. spawn_is m ∙ rw (took u g)))
+  pub spawn_no : {t : OrRefusal Turn} {y : Refusal} → q ≡ Err y → t ≡ Err y → TermTurned Spawn s w c k t w
+  spawn_no g h = turn_no h (meets_no s w c k refl same (λ m _. spawn_is m ∙ rw (took u g)))
 
-  module _ {i : ℕ} {d : Cursor} (e : q ≡ At i d) {p : Out} {v : List ℕ} (t : TypeRead s w d (more_terms k) p v) where
-    pub spawn_type_no : {n j : ℕ} → p ≡ Not n j → TermTurned Spawn s w c k (Done p) v
-    spawn_type_no g =
+  module _ {i : ℕ} {d : Cursor} (e : q ≡ Ok (i, d)) {p : Out} {v : List ℕ} (t : TypeRead s w d (more_terms k) p v) where
+    pub spawn_type_no : {t : OrRefusal Turn} {y : Refusal} → p ≡ Err y → t ≡ Err y → TermTurned Spawn s w c k t v
+    spawn_type_no g r-is =
         let o = u.on i d e in
-        turn_done (meets_no s w c k g t.kept (λ m lo. spawn_is m ∙ rw (took u e, stopped (read_type m s d) (t.is m (omega arith)) g)))
+        turn_no r-is (meets_no s w c k refl t.kept (λ m lo. spawn_is m ∙ rw (took u e, stopped (read_type m s d) (t.is m (omega arith)) g)))
 
-    module _ {f : Cursor} {l : Tally} (g : p ≡ Got f l) {x : Taken} (y : Stepped s f 1 0 0 (expect s k_from f) x) where
-      pub spawn_arrow_no : {r : Out} {n j : ℕ} → x ≡ Refused n j → r ≡ as_out x → TermTurned Spawn s w c k (Done r) v
+    module _ {f : Cursor} {l : Tally} (g : p ≡ Ok (f, l)) {x : Taken} (y : Stepped s f 1 0 0 (expect s k_from f) x) where
+      pub spawn_arrow_no : {t : OrRefusal Turn} {y : Refusal} → x ≡ Err y → t ≡ Err y → TermTurned Spawn s w c k t v
       spawn_arrow_no z h =
           let o = u.on i d e in
-          turn_done (meets_no s w c k (refused_out z h) t.kept
+          turn_no h (meets_no s w c k refl t.kept
           (λ m lo. gone_on (read_type m s d) (t.is m (omega arith)) g λ A a _ _ _. spawn_is m ∙ rw (took u e, a, took y z)))
 
-      module _ {j : ℕ} {b : Cursor} (z : x ≡ At j b) where
+      module _ {j : ℕ} {b : Cursor} (z : x ≡ Ok (j, b)) where
         -- the node after the type and the first half is the one before them
         spawn_words : (A : Ty Located) (P Q : Proc) → l ≡ after_type A (more_terms k) → v ≡ write_type A (more_terms k) w
             → Inside (after_process Q (after_process P l))
@@ -343,7 +342,7 @@ module _ (s w : List ℕ) (c : Cursor) (k : Tally) (room : Room s w c k) {q : Ta
               on = λ b₂ l₂ h. let o₄ = t₂.on b₂ l₂ h in omega arith;
             }
 
-        pub spawn_on : {t₂ : Turn} {v₂ : List ℕ} → PartsTurned k.terms i s v b l t₂ v₂ → TermTurned Spawn s w c k t₂ v₂
+        pub spawn_on : {t₂ : OrRefusal Turn} {v₂ : List ℕ} → PartsTurned k.terms i s v b l t₂ v₂ → TermTurned Spawn s w c k t₂ v₂
         spawn_on {t₂} h =
             let o = u.on i d e in
             let o₂ = t.on f l g in
@@ -364,12 +363,17 @@ module _ (s w : List ℕ) (c : Cursor) (k : Tally) (room : Room s w c k) where
     on = y.on;
   }
 
-  pub turn_by : (h : TermHead) → term_head (kind_at s c.at) ≡ h → {t : Turn} {v : List ℕ} → TermTurned h s w c k t v → TurnRead s w c k t v
+  pub turn_by : (h : TermHead) → term_head (kind_at s c.at) ≡ h → {t : OrRefusal Turn} {v : List ℕ} → TermTurned h s w c k t v → TurnRead s w c k t v
   turn_by h e {t} a = turn_under t (omega arith) same (turn_whole h e) a
 
-  pub turn_read : (h : TermHead) → term_head (kind_at s c.at) ≡ h → {r : Out} {v : List ℕ} → TermRead h s w c k r v → TurnRead s w c k (Done r) v
-  turn_read h e {r} {v} a = turn_done (turn_whole h e r v a)
+  pub turn_read : (h : TermHead) → term_head (kind_at s c.at) ≡ h → {r : Out} {v : List ℕ} → TermRead h s w c k r v → {d : Cursor} {l : Tally} → r ≡ Ok (d, l)
+      → TurnRead s w c k (Ok (Done d l)) v
+  turn_read h e {v = v} a {d} {l} g = turn_done (turn_whole h e (Ok (d, l)) v (rw g at a))
 
-  pub turn_empty : term_head (kind_at s c.at) ≡ Empty → (token_at s c.at).start ≤ text_limit → TurnRead s w c k (Done (Got c k)) w
+  pub turn_read_no : (h : TermHead) → term_head (kind_at s c.at) ≡ h → {r : Out} {v : List ℕ} → TermRead h s w c k r v → {t : OrRefusal Turn} {y : Refusal} → r ≡ Err y
+      → t ≡ Err y → TurnRead s w c k t v
+  turn_read_no h e {v = v} a {y = y} g q = turn_no q (turn_whole h e (Err y) v (rw g at a))
+
+  pub turn_empty : term_head (kind_at s c.at) ≡ Empty → (token_at s c.at).start ≤ text_limit → TurnRead s w c k (Ok (Done c k)) w
   unfolding process_by after_process write_process FineProcess
-  turn_empty e l = turn_read Empty e (meets_got s w c k (omega arith) same (λ m _. record { said = (refl, refl, l) }))
+  turn_empty e l = turn_done (turn_whole Empty e (Ok (c, k)) w (meets_got s w c k (omega arith) same (λ m _. record { said = (refl, refl, l) })))

@@ -7,58 +7,39 @@ use native.Mathlib.Omega.{arith}
 use lib.ListN.{length}
 use lib.Dec.{eqb, ltb}
 use borrow.Author.Tests.{ltb-true, ne_eqb}
+use Rattle.std.specs.Prelude.{Ok, Err}
 use Rattle.notation.specs.Fine.{FineDeclaration}
 use Rattle.notation.specs.Limits.{type_limit, process_limit, exec_limit}
 use Rattle.notation.specs.Token.{kind_at, k_name, k_equals, k_type, k_proc, k_exec, k_end, k_round_open, k_round_close, k_square_open, k_square_close}
 use Rattle.notation.specs.Tree.{Located, Ty, unit, named, tensor, par, lolli, plus, with, Alternatives, alternative, Entry, Declaration, declare_type, declare_proc, declare_exec}
-use Rattle.notation.specs.Reader.{Result, part, lastly, expect, misfit, name_in, got, on_token}
+use Rattle.notation.specs.Reader.{Result, Taken, part, lastly, expect, misfit, name_in, got, on_token}
 use Rattle.notation.specs.Types.{read_type}
 use Rattle.notation.specs.Processes.{read_process}
 use Rattle.notation.specs.Scripts.{Count, keyword, entry_list, declaration_head, type_declaration, proc_declaration, exec_declaration, script_by, read_script}
 use Rattle.notation.specs.Tables.{more_nodes, more_entries, more_types, more_processes, more_execs, put_type, put_process, process_entry, pointer_to, put_exec, after_type, after_alternatives, after_entries, write_entries, after_process, write_process, after_declaration, write_declaration, after_script, write_script}
+use Rattle.notation.specs.declared.refusal.Refusal.{Refusal}
 use Rattle.notation.specs.declared.reading.Cursor.{Cursor}
 use Rattle.notation.specs.declared.reading.Tally.{Tally}
-use Rattle.notation.specs.declared.reading.Taken.{Taken}
-use Rattle.notation.specs.declared.reading.Taken.TheVariants.{At, Refused}
 use Rattle.notation.specs.declared.token.DeclarationHead.{DeclarationHead}
 use Rattle.notation.specs.declared.token.DeclarationHead.TheVariants.{TypeWord, ProcWord, ExecWord, Other}
-use Rattle.read_types.specs.declared.steps.Out.{Out}
-use Rattle.read_types.specs.declared.steps.Out.TheVariants.{Got, Not}
-use Rattle.read_types.specs.Filling.{TypeRead, Stepped, as_out, misfit_out, Put, Room}
+use Rattle.read_types.specs.Filling.{Out, TypeRead, Stepped, misfit_refusal, Put, Room}
 use Rattle.read_text.specs.Turns.{peek, ProcessRead}
 use Rattle.read_text.specs.Scripts.{after_token, declared_name, EntriesRead, declaration_by, count_by, DeclarationRead, count_of, Counted, script_form, ScriptRead}
-use Rattle.read_types.proofs.Taking.{stepped_no}
-use Rattle.read_types.proofs.Filled.{same, ◌upon◌, put_kept, took, refused_out, made_got, gone_on, stopped, meets_no, meets_got, more_no, more_got, more_made}
+use Rattle.read_types.proofs.Filled.{same, ◌upon◌, put_kept, took, made_got, gone_on, stopped, meets_no, meets_got, more_no, more_got, more_made}
 use Rattle.read_text.proofs.Turning.{limit_held, made_as, Through, through_on}
 use Rattle.read_text.proofs.Pointers.{pointer_at}
 
 -- ── a keyword and the name after it
 name_taken : {A : Type 0} (t : Taken) (f : Cursor → Taken) (g : ℕ → Cursor → Result A) → on_token t (λ _ d. on_token (f d) g) ≡ on_token (after_token t f) g
-name_taken (At i d) f g = refl
-name_taken (Refused n i) f g = refl
-
-module _ {s : List ℕ} {c : Cursor} {n : ℕ} (kind before limit : ℕ) {q : Taken} (u : Stepped s c n 0 0 (keyword s kind before limit c) q) where
-  pub name_no : {m j : ℕ} → q ≡ Refused m j → Stepped s c 2 0 0 (declared_name s kind before limit c) q
-  unfolding declared_name
-  name_no {m} {j} e = rw e (stepped_no m j (rw (took u e)))
-
-  pub name_at : 1 ≤ n → {i : ℕ} {d : Cursor} → q ≡ At i d → {r : Taken} → Stepped s d 1 0 0 (expect s k_name d) r
-      → Stepped s c 2 0 0 (declared_name s kind before limit c) r
-  unfolding declared_name
-  name_at l {i} {d} e v = record {
-    is = v.is ∙ rw (took u e);
-    on = λ j f x.
-        let o = u.on i d e in
-        let p = v.on j f x in
-        omega arith;
-  }
+name_taken (Ok (i, d)) f g = refl
+name_taken (Err y) f g = refl
 
 -- one that was taken is within its limit
 pub name_held : {s : List ℕ} {c : Cursor} {n i : ℕ} {d : Cursor} {q : Taken} (kind before limit : ℕ)
-    → Stepped s c n 0 0 (declared_name s kind before limit c) q → q ≡ At i d → before < limit
+    → Stepped s c n 0 0 (declared_name s kind before limit c) q → q ≡ Ok (i, d) → before < limit
 unfolding declared_name
 name_held {s} {c} kind before limit u e =
-    ltb-true before limit (limit_held (λ x. after_token x (expect s k_name)) (λ m i. refl) (expect s kind c) (ltb before limit) (took u e))
+    ltb-true before limit (limit_held (λ x. after_token x (expect s k_name)) (λ y. refl) (expect s kind c) (ltb before limit) (took u e))
 
 -- ── how many entries a list appends
 mutual
@@ -106,22 +87,22 @@ module _ (s w : List ℕ) (c : Cursor) (k : Tally) (room : Room s w c k) {q : Ta
   unfolding type_declaration declared_name
   type_is m = name_taken (keyword s k_type k.types type_limit c) (expect s k_name) _
 
-  pub type_no : {r : Out} {n i : ℕ} → q ≡ Refused n i → r ≡ as_out q → Types r w
-  type_no g h = meets_no s w c k (refused_out g h) same (λ m _. type_is m ∙ rw (took u g))
+  pub type_no : {r : Out} {y : Refusal} → q ≡ Err y → r ≡ Err y → Types r w
+  type_no g h = meets_no s w c k h same (λ m _. type_is m ∙ rw (took u g))
 
-  module _ {i : ℕ} {f : Cursor} (e : q ≡ At i f) {z : Taken} (a : Stepped s f 1 0 0 (expect s k_equals f) z) where
-    pub type_equals_no : {r : Out} {n j : ℕ} → z ≡ Refused n j → r ≡ as_out z → Types r w
-    type_equals_no h l = meets_no s w c k (refused_out h l) same (λ m _. type_is m ∙ rw (took u e, took a h))
+  module _ {i : ℕ} {f : Cursor} (e : q ≡ Ok (i, f)) {z : Taken} (a : Stepped s f 1 0 0 (expect s k_equals f) z) where
+    pub type_equals_no : {r : Out} {y : Refusal} → z ≡ Err y → r ≡ Err y → Types r w
+    type_equals_no h l = meets_no s w c k l same (λ m _. type_is m ∙ rw (took u e, took a h))
 
-    module _ {j : ℕ} {b : Cursor} (h : z ≡ At j b) {p : Out} {v : List ℕ} (t : TypeRead s w b k p v) where
-      pub type_type_no : {n o : ℕ} → p ≡ Not n o → Types p v
-      type_type_no l =
+    module _ {j : ℕ} {b : Cursor} (h : z ≡ Ok (j, b)) {p : Out} {v : List ℕ} (t : TypeRead s w b k p v) where
+      pub type_type_no : {r : Out} {y : Refusal} → p ≡ Err y → r ≡ Err y → Types r v
+      type_type_no l r-is =
           let o₂ = u.on i f e in
           let o₃ = a.on j b h in
-          meets_no s w c k l t.kept (λ m lo. type_is m ∙ rw (took u e, took a h, stopped (read_type m s b) (t.is m (omega arith)) l))
+          meets_no s w c k r-is t.kept (λ m lo. type_is m ∙ rw (took u e, took a h, stopped (read_type m s b) (t.is m (omega arith)) l))
 
-      pub type_got : {b₂ : Cursor} {l l₂ : Tally} {v₂ : List ℕ} → p ≡ Got b₂ l → Put v (put_type v l.types i l.last) (more_types l) l₂ v₂
-          → Types (Got b₂ l₂) v₂
+      pub type_got : {b₂ : Cursor} {l l₂ : Tally} {v₂ : List ℕ} → p ≡ Ok (b₂, l) → Put v (put_type v l.types i l.last) (more_types l) l₂ v₂
+          → Types (Ok (b₂, l₂)) v₂
       unfolding after_declaration write_declaration FineDeclaration
       type_got {b₂} {l} n pt =
           let o₂ = u.on i f e in
@@ -136,7 +117,7 @@ module _ (s w : List ℕ) (c : Cursor) (k : Tally) (room : Room s w c k) {q : Ta
           ) (put_kept pt upon t.kept)
           (λ m lo. gone_on (read_type m s b) (t.is m (omega arith)) n λ A x₂ al av fi.
           let number : l.types ≡ k.types = o₄.0.6.4.0 in
-          made_got (declare_type (name_in s i) A) (type_is m ∙ rw (took u e, took a h, x₂)) (λ j. Got b₂ (more_types (al j)))
+          made_got (declare_type (name_in s i) A) (type_is m ∙ rw (took u e, took a h, x₂)) (λ j. Ok (b₂, more_types (al j)))
           (λ j. put_type (av j) (number j) i (al j).last) (omega arith, fi)))
 
 -- ── exec p
@@ -148,10 +129,10 @@ module _ (s w : List ℕ) (c : Cursor) (k : Tally) (room : Room s w c k) {q : Ta
   unfolding exec_declaration declared_name
   exec_is m = name_taken (keyword s k_exec k.execs exec_limit c) (expect s k_name) _
 
-  pub exec_no : {r : Out} {n i : ℕ} → q ≡ Refused n i → r ≡ as_out q → Execs r w
-  exec_no g h = meets_no s w c k (refused_out g h) same (λ m _. exec_is m ∙ rw (took u g))
+  pub exec_no : {r : Out} {y : Refusal} → q ≡ Err y → r ≡ Err y → Execs r w
+  exec_no g h = meets_no s w c k h same (λ m _. exec_is m ∙ rw (took u g))
 
-  pub exec_got : {i : ℕ} {f : Cursor} {l : Tally} {v : List ℕ} → q ≡ At i f → Put w (put_exec w k.execs i) (more_execs k) l v → Execs (Got f l) v
+  pub exec_got : {i : ℕ} {f : Cursor} {l : Tally} {v : List ℕ} → q ≡ Ok (i, f) → Put w (put_exec w k.execs i) (more_execs k) l v → Execs (Ok (f, l)) v
   unfolding after_declaration write_declaration FineDeclaration
   exec_got {i} {f} e pt =
       let o₂ = u.on i f e in
@@ -171,49 +152,49 @@ module _ (s w : List ℕ) (c : Cursor) (k : Tally) (room : Room s w c k) {q : Ta
   unfolding proc_declaration declared_name
   proc_is m = name_taken (keyword s k_proc k.processes process_limit c) (expect s k_name) _
 
-  pub proc_no : {r : Out} {n i : ℕ} → q ≡ Refused n i → r ≡ as_out q → Procs r w
-  proc_no g h = meets_no s w c k (refused_out g h) same (λ m _. proc_is m ∙ rw (took u g))
+  pub proc_no : {r : Out} {y : Refusal} → q ≡ Err y → r ≡ Err y → Procs r w
+  proc_no g h = meets_no s w c k h same (λ m _. proc_is m ∙ rw (took u g))
 
-  module _ {i : ℕ} {f : Cursor} (e : q ≡ At i f) {p : Out} {v : List ℕ} (t : EntriesRead (λ m. entry_list m s k_round_open k_round_close f) s w f k p v) where
-    pub proc_provides_no : {n j : ℕ} → p ≡ Not n j → Procs p v
-    proc_provides_no h =
+  module _ {i : ℕ} {f : Cursor} (e : q ≡ Ok (i, f)) {p : Out} {v : List ℕ} (t : EntriesRead (λ m. entry_list m s k_round_open k_round_close f) s w f k p v) where
+    pub proc_provides_no : {r : Out} {y : Refusal} → p ≡ Err y → r ≡ Err y → Procs r v
+    proc_provides_no h r-is =
         let o₂ = u.on i f e in
-        meets_no s w c k h t.kept (λ m lo. proc_is m ∙ rw (took u e, stopped (entry_list m s k_round_open k_round_close f) (t.is m (omega arith)) h))
+        meets_no s w c k r-is t.kept (λ m lo. proc_is m ∙ rw (took u e, stopped (entry_list m s k_round_open k_round_close f) (t.is m (omega arith)) h))
 
-    module _ {b : Cursor} {l : Tally} (h : p ≡ Got b l) {p₂ : Out} {v₂ : List ℕ} (t₂ : EntriesRead
+    module _ {b : Cursor} {l : Tally} (h : p ≡ Ok (b, l)) {p₂ : Out} {v₂ : List ℕ} (t₂ : EntriesRead
         (λ m. entry_list m s k_square_open k_square_close b) s v b l p₂ v₂) where
-      pub proc_uses_no : {n j : ℕ} → p₂ ≡ Not n j → Procs p₂ v₂
-      proc_uses_no h₂ =
+      pub proc_uses_no : {r : Out} {y : Refusal} → p₂ ≡ Err y → r ≡ Err y → Procs r v₂
+      proc_uses_no h₂ r-is =
           let o₂ = u.on i f e in
           let o₃ = t.on b l h in
-          meets_no s w c k h₂ (t₂.kept upon t.kept)
+          meets_no s w c k r-is (t₂.kept upon t.kept)
           (λ m lo. gone_on (entry_list m s k_round_open k_round_close f) (t.is m (omega arith)) h λ xs a _ _ _.
           proc_is m ∙ rw (took u e, a, stopped (entry_list m s k_square_open k_square_close b) (t₂.is m (omega arith)) h₂))
 
-      module _ {b₂ : Cursor} {l₂ : Tally} (h₂ : p₂ ≡ Got b₂ l₂) {z : Taken} (a : Stepped s b₂ 1 0 0 (expect s k_equals b₂) z) where
-        pub proc_equals_no : {r : Out} {n j : ℕ} → z ≡ Refused n j → r ≡ as_out z → Procs r v₂
+      module _ {b₂ : Cursor} {l₂ : Tally} (h₂ : p₂ ≡ Ok (b₂, l₂)) {z : Taken} (a : Stepped s b₂ 1 0 0 (expect s k_equals b₂) z) where
+        pub proc_equals_no : {r : Out} {y : Refusal} → z ≡ Err y → r ≡ Err y → Procs r v₂
         proc_equals_no n r =
             let o₂ = u.on i f e in
             let o₃ = t.on b l h in
-            meets_no s w c k (refused_out n r) (t₂.kept upon t.kept)
+            meets_no s w c k r (t₂.kept upon t.kept)
             (λ m lo. gone_on (entry_list m s k_round_open k_round_close f) (t.is m (omega arith)) h λ xs x₁ _ _ _.
             gone_on (entry_list m s k_square_open k_square_close b) (t₂.is m (omega arith)) h₂ λ ys x₂ _ _ _.
             proc_is m ∙ rw (took u e, x₁, x₂, took a n))
 
-        module _ {j : ℕ} {b₃ : Cursor} (n : z ≡ At j b₃) {p₃ : Out} {v₃ : List ℕ} (t₃ : ProcessRead s v₂ b₃ l₂ p₃ v₃) where
-          pub proc_body_no : {m o : ℕ} → p₃ ≡ Not m o → Procs p₃ v₃
-          proc_body_no r =
+        module _ {j : ℕ} {b₃ : Cursor} (n : z ≡ Ok (j, b₃)) {p₃ : Out} {v₃ : List ℕ} (t₃ : ProcessRead s v₂ b₃ l₂ p₃ v₃) where
+          pub proc_body_no : {r : Out} {y : Refusal} → p₃ ≡ Err y → r ≡ Err y → Procs r v₃
+          proc_body_no r r-is =
               let o₂ = u.on i f e in
               let o₃ = t.on b l h in
               let o₄ = t₂.on b₂ l₂ h₂ in
               let o₅ = a.on j b₃ n in
-              meets_no s w c k r (t₃.kept upon t₂.kept upon t.kept)
+              meets_no s w c k r-is (t₃.kept upon t₂.kept upon t.kept)
               (λ m lo. gone_on (entry_list m s k_round_open k_round_close f) (t.is m (omega arith)) h λ xs x₁ _ _ _.
               gone_on (entry_list m s k_square_open k_square_close b) (t₂.is m (omega arith)) h₂ λ ys x₂ _ _ _.
               proc_is m ∙ rw (took u e, x₁, x₂, took a n, stopped (read_process m s b₃) (t₃.is m (omega arith)) r))
 
-          pub proc_got : {body : ℕ} → body ≡ peek s b₃.at l₂.terms → {b₄ : Cursor} {l₃ l₄ : Tally} {v₄ : List ℕ} → p₃ ≡ Got b₄ l₃
-              → Put v₃ (put_process v₃ l₃.processes (process_entry i k.entries (l.entries - k.entries) (l₂.entries - l.entries) body)) (more_processes l₃) l₄ v₄ → Procs (Got b₄ l₄) v₄
+          pub proc_got : {body : ℕ} → body ≡ peek s b₃.at l₂.terms → {b₄ : Cursor} {l₃ l₄ : Tally} {v₄ : List ℕ} → p₃ ≡ Ok (b₄, l₃)
+              → Put v₃ (put_process v₃ l₃.processes (process_entry i k.entries (l.entries - k.entries) (l₂.entries - l.entries) body)) (more_processes l₃) l₄ v₄ → Procs (Ok (b₄, l₄)) v₄
           unfolding after_declaration write_declaration FineDeclaration
           proc_got {body} at {b₄} {l₃} r pt =
               let o₂ = u.on i f e in
@@ -243,12 +224,12 @@ module _ (s w : List ℕ) (c : Cursor) (k : Tally) (room : Room s w c k) {q : Ta
               let second : l₂.entries - l.entries ≡ length ys = entries_read ys l l₂ bl in
               let to : body ≡ pointer_to P (after_entries ys (after_entries xs k)).terms = at ∙ sym (pointer_at m s b₃ b₄ P l₂.terms x₃) ∙ ap
               (λ (x : Tally). pointer_to P x.terms) tally in
-              made_got (declare_proc (name_in s i) xs ys P) (proc_is m ∙ rw (took u e, x₁, x₂, took a n, x₃)) (λ j. Got b₄ (more_processes (last j)))
+              made_got (declare_proc (name_in s i) xs ys P) (proc_is m ∙ rw (took u e, x₁, x₂, took a n, x₃)) (λ j. Ok (b₄, more_processes (last j)))
               (λ j. put_process (all j) (number j) (process_entry i k.entries (first j) (second j) (to j))) (omega arith, fi, fi₂, fi₃)))
 
 -- ── a declaration that no token begins
 pub declare_no : (h : DeclarationHead) (s w : List ℕ) (c : Cursor) (k : Tally) {r : Out} → ((m : ℕ) → declaration_by h m s (count_of k) c ≡ misfit s c)
-    → r ≡ misfit_out s c → DeclarationRead h s w c k r
+    → r ≡ Err (misfit_refusal s c) → DeclarationRead h s w c k r
     w
 unfolding misfit
 declare_no h s w c k e g = meets_no s w c k g same (λ m _. e m)
@@ -274,7 +255,7 @@ module _ (s w : List ℕ) (c : Cursor) (k : Tally) (room : Room s w c k) (counte
   unfolding read_script
   script_suc m = rw at refl
 
-  pub script_end : kind ≡ k_end → ScriptRead s w c k (Got c k) w
+  pub script_end : kind ≡ k_end → ScriptRead s w c k (Ok (c, k)) w
   unfolding script_by declaration_head after_script write_script
   script_end e =
       more_got script_form s w c k (λ m. read_script m s (count_of k) c) (omega arith) same
@@ -284,12 +265,12 @@ module _ (s w : List ℕ) (c : Cursor) (k : Tally) (room : Room s w c k) (counte
     script_is : (m : ℕ) → read_script (suc m) s (count_of k) c ≡ part (declaration_by h m s (count_of k) c) (λ a d. lastly (◌∷◌ a) (read_script m s (count_by h (count_of k)) d))
     script_is m = script_suc m ∙ rw head (script_by_lem (λ j d. read_script m s j d) m s (count_of k) c kind more)
 
-    pub script_no : {n i : ℕ} → p ≡ Not n i → ScriptRead s w c k p v
-    script_no g =
-        more_no script_form s w c k (λ m. read_script m s (count_of k) c) g t.kept (λ m lo. script_is m ∙ rw
+    pub script_no : {r : Out} {y : Refusal} → p ≡ Err y → r ≡ Err y → ScriptRead s w c k r v
+    script_no g r-is =
+        more_no script_form s w c k (λ m. read_script m s (count_of k) c) r-is t.kept (λ m lo. script_is m ∙ rw
         (stopped (declaration_by h m s (count_of k) c) (t.is m (omega arith)) g))
 
-    script_more : {d : Cursor} {l : Tally} → p ≡ Got d l → (x : Out) (v₂ : List ℕ) → ScriptRead s v d l x v₂ → ScriptRead s w c k x v₂
+    script_more : {d : Cursor} {l : Tally} → p ≡ Ok (d, l) → (x : Out) (v₂ : List ℕ) → ScriptRead s v d l x v₂ → ScriptRead s w c k x v₂
     unfolding after_script write_script
     script_more {d} {l} g x v₂ y =
         let o = (t.on d l g).0 in
@@ -303,7 +284,7 @@ module _ (s w : List ℕ) (c : Cursor) (k : Tally) (room : Room s w c k) (counte
         }
 
     -- the loop over declarations
-    pub script_on : {w₀ : List ℕ} {c₀ : Cursor} {k₀ : Tally} → Through (ScriptRead s) s w₀ c₀ k₀ w c k → {d : Cursor} {l : Tally} → p ≡ Got d l
+    pub script_on : {w₀ : List ℕ} {c₀ : Cursor} {k₀ : Tally} → Through (ScriptRead s) s w₀ c₀ k₀ w c k → {d : Cursor} {l : Tally} → p ≡ Ok (d, l)
         → Through (ScriptRead s) s w₀ c₀ k₀ v d l × Counted l
     script_on y {d} {l} g =
         let o = t.on d l g in

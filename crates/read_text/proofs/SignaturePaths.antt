@@ -5,23 +5,21 @@ use mathlib.Core.Bool.{Bool, true, false}
 use Prim.Native.Nat.{ℕ, suc, ◌+◌, ◌≤◌}
 use native.Mathlib.Omega.{arith}
 use lib.Dec.{eqb}
+use Rattle.std.specs.Prelude.{Ok, Err}
 use Rattle.notation.specs.Fine.{FineEntries}
 use Rattle.notation.specs.Token.{kind_at, k_name, k_colon, k_comma}
 use Rattle.notation.specs.Tree.{Located, Ty, Entry}
-use Rattle.notation.specs.Reader.{Result, got, on_token, part, lastly, choose, expect, opening, closed, name_in}
+use Rattle.notation.specs.Reader.{Result, Taken, got, on_token, part, lastly, choose, expect, opening, closed, name_in}
 use Rattle.notation.specs.Types.{read_type}
 use Rattle.notation.specs.Scripts.{read_entries, entry_list}
 use Rattle.notation.specs.Tables.{more_entries, put_entry, after_type, write_type, after_entries, write_entries}
+use Rattle.notation.specs.declared.refusal.Refusal.{Refusal}
 use Rattle.notation.specs.declared.reading.Cursor.{Cursor}
 use Rattle.notation.specs.declared.reading.Tally.{Tally}
-use Rattle.notation.specs.declared.reading.Taken.{Taken}
-use Rattle.notation.specs.declared.reading.Taken.TheVariants.{At, Refused}
-use Rattle.read_types.specs.declared.steps.Out.{Out}
-use Rattle.read_types.specs.declared.steps.Out.TheVariants.{Got, Not}
-use Rattle.read_types.specs.Filling.{SameDeclared, TypeRead, Stepped, as_out, Put, Room}
+use Rattle.read_types.specs.Filling.{Out, SameDeclared, TypeRead, Stepped, Put, Room}
 use Rattle.read_text.specs.Scripts.{entry_name, entries_form, close_by, more_entries_by, entries_or_none, EntriesRead}
 use Rattle.read_types.proofs.TypePaths.{then_take}
-use Rattle.read_types.proofs.Filled.{same, ◌upon◌, took, refused_out, made_got, gone_on, stopped, meets_no, meets_got, more_no, more_made}
+use Rattle.read_types.proofs.Filled.{same, ◌upon◌, took, made_got, gone_on, stopped, meets_no, meets_got, more_no, more_made}
 use Rattle.read_text.proofs.Turning.{made_as, Through, through_on}
 
 abbrev entry : List ℕ → ℕ → Ty Located → Entry
@@ -29,8 +27,8 @@ entry s i A = record { channel = name_in s i; type = A }
 
 -- what is put before a list stands before each of its ways
 last_take : {A B : Type 0} (h : A → B) (t : Taken) (f : ℕ → Cursor → Result A) → on_token t (λ i d. lastly h (f i d)) ≡ lastly h (on_token t f)
-last_take h (At i d) f = refl
-last_take h (Refused n i) f = refl
+last_take h (Ok (i, d)) f = refl
+last_take h (Err y) f = refl
 
 entries_last : (m : ℕ) (s : List ℕ) (close : ℕ) (x : Entry) (c : Cursor)
     → choose (eqb (kind_at s c.at) k_comma) (λ c. on_token (expect s k_comma c) λ _ d. lastly (◌∷◌ x) (read_entries m s close d)) (λ c. on_token (expect s close c) λ _ d. got (x ∷ []) d) c
@@ -64,10 +62,10 @@ entry_added k l e = (
 
 -- ── the bracket that closes
 module _ (s w : List ℕ) (c : Cursor) (k : Tally) (room : Room s w c k) (close n : ℕ) {q : Taken} (u : Stepped s c n 0 0 (expect s close c) q) where
-  pub close_no : {r : Out} {m i : ℕ} → q ≡ Refused m i → r ≡ as_out q → EntriesRead (λ _. close_by s close c) s w c k r w
-  close_no g h = meets_no s w c k (refused_out g h) same (λ m _. rw (took u g))
+  pub close_no : {r : Out} {y : Refusal} → q ≡ Err y → r ≡ Err y → EntriesRead (λ _. close_by s close c) s w c k r w
+  close_no g h = meets_no s w c k h same (λ m _. rw (took u g))
 
-  pub close_got : {i : ℕ} {d : Cursor} → q ≡ At i d → EntriesRead (λ _. close_by s close c) s w c k (Got d k) w
+  pub close_got : {i : ℕ} {d : Cursor} → q ≡ Ok (i, d) → EntriesRead (λ _. close_by s close c) s w c k (Ok (d, k)) w
   unfolding after_entries write_entries FineEntries
   close_got {i} {d} e =
       let o = u.on i d e in
@@ -88,17 +86,17 @@ abbrev pub Entries : List ℕ → ℕ → List ℕ → Cursor → Tally → Out 
 Entries s close w c k = EntriesRead (λ m. read_entries m s close c) s w c k
 
 module _ (s w : List ℕ) (c : Cursor) (k : Tally) (room : Room s w c k) (close : ℕ) {q : Taken} (u : Stepped s c 2 0 0 (entry_name s c) q) where
-  pub entries_no : {r : Out} {n i : ℕ} → q ≡ Refused n i → r ≡ as_out q → Entries s close w c k r w
-  entries_no g h = more_no entries_form s w c k (λ m. read_entries m s close c) (refused_out g h) same (λ m _. entries_suc m s close c ∙ rw (took u g))
+  pub entries_no : {r : Out} {y : Refusal} → q ≡ Err y → r ≡ Err y → Entries s close w c k r w
+  entries_no g h = more_no entries_form s w c k (λ m. read_entries m s close c) h same (λ m _. entries_suc m s close c ∙ rw (took u g))
 
-  module _ {i : ℕ} {d : Cursor} (e : q ≡ At i d) {p : Out} {v : List ℕ} (t : TypeRead s w d k p v) where
-    pub entries_type_no : {n j : ℕ} → p ≡ Not n j → Entries s close w c k p v
-    entries_type_no g =
+  module _ {i : ℕ} {d : Cursor} (e : q ≡ Ok (i, d)) {p : Out} {v : List ℕ} (t : TypeRead s w d k p v) where
+    pub entries_type_no : {r : Out} {y : Refusal} → p ≡ Err y → r ≡ Err y → Entries s close w c k r v
+    entries_type_no g r-is =
         let o = u.on i d e in
-        more_no entries_form s w c k (λ m. read_entries m s close c) g t.kept
+        more_no entries_form s w c k (λ m. read_entries m s close c) r-is t.kept
         (λ m lo. entries_suc m s close c ∙ rw (took u e, stopped (read_type m s d) (t.is m (omega arith)) g))
 
-    module _ {f : Cursor} {l : Tally} (g : p ≡ Got f l) {l₂ : Tally} {v₂ : List ℕ} (pt : Put v (put_entry v l.entries i l.last)
+    module _ {f : Cursor} {l : Tally} (g : p ≡ Ok (f, l)) {l₂ : Tally} {v₂ : List ℕ} (pt : Put v (put_entry v l.entries i l.last)
         (more_entries l) l₂ v₂) where
       entries_more : {x : Out} {v₃ : List ℕ} → EntriesRead (λ m. more_entries_by m s close f) s v₂ f l₂ x v₃ → Entries s close w c k x v₃
       unfolding after_entries write_entries FineEntries
@@ -121,10 +119,10 @@ module _ (s w : List ℕ) (c : Cursor) (k : Tally) (room : Room s w c k) (close 
           }
 
       module _ (comma : eqb (kind_at s f.at) k_comma ≡ true) {x : Taken} (y : Stepped s f 1 0 0 (expect s k_comma f) x) where
-        pub entries_comma_no : {r : Out} {n j : ℕ} → x ≡ Refused n j → r ≡ as_out x → Entries s close w c k r v₂
-        entries_comma_no h z = entries_more (meets_no s v₂ f l₂ (refused_out h z) same (λ m _. rw (comma, took y h)))
+        pub entries_comma_no : {r : Out} {y : Refusal} → x ≡ Err y → r ≡ Err y → Entries s close w c k r v₂
+        entries_comma_no h z = entries_more (meets_no s v₂ f l₂ z same (λ m _. rw (comma, took y h)))
 
-        pub entries_on_lem : {w₀ : List ℕ} {c₀ : Cursor} {k₀ : Tally} → Through (Entries s close) s w₀ c₀ k₀ w c k → {j : ℕ} {b : Cursor} → x ≡ At j b
+        pub entries_on_lem : {w₀ : List ℕ} {c₀ : Cursor} {k₀ : Tally} → Through (Entries s close) s w₀ c₀ k₀ w c k → {j : ℕ} {b : Cursor} → x ≡ Ok (j, b)
             → Through (Entries s close) s w₀ c₀ k₀ v₂ b l₂
         entries_on_lem h {j} {b} z =
             let o = u.on i d e in
@@ -146,19 +144,19 @@ module _ (s w : List ℕ) (c : Cursor) (k : Tally) (room : Room s w c k) (opens 
   unfolding entry_list
   list_is m = refl
 
-  pub list_no : {r : Out} {m i : ℕ} → q ≡ Refused m i → r ≡ as_out q → EntriesRead (λ m. entry_list m s opens closes c) s w c k r w
-  list_no g h = meets_no s w c k (refused_out g h) same (λ m _. list_is m ∙ rw (took u g))
+  pub list_no : {r : Out} {y : Refusal} → q ≡ Err y → r ≡ Err y → EntriesRead (λ m. entry_list m s opens closes c) s w c k r w
+  list_no g h = meets_no s w c k h same (λ m _. list_is m ∙ rw (took u g))
 
-  module _ {i : ℕ} {d : Cursor} (e : q ≡ At i d) {p : Out} {v : List ℕ} (t : EntriesRead (λ m. entries_or_none m s closes d) s w d k p v) where
-    pub list_inner_no : {m j : ℕ} → p ≡ Not m j → EntriesRead (λ m. entry_list m s opens closes c) s w c k p v
-    list_inner_no g =
+  module _ {i : ℕ} {d : Cursor} (e : q ≡ Ok (i, d)) {p : Out} {v : List ℕ} (t : EntriesRead (λ m. entries_or_none m s closes d) s w d k p v) where
+    pub list_inner_no : {r : Out} {y : Refusal} → p ≡ Err y → r ≡ Err y → EntriesRead (λ m. entry_list m s opens closes c) s w c k r v
+    list_inner_no g r-is =
         let o = u.on i d e in
-        meets_no s w c k g t.kept (λ m lo. list_is m ∙ rw (took u e, stopped (entries_or_none m s closes d) (t.is m (omega arith)) g))
+        meets_no s w c k r-is t.kept (λ m lo. list_is m ∙ rw (took u e, stopped (entries_or_none m s closes d) (t.is m (omega arith)) g))
 
-    pub list_got : {f : Cursor} {l : Tally} → p ≡ Got f l → EntriesRead (λ m. entry_list m s opens closes c) s w c k (Got (closed c f) l) v
+    pub list_got : {f : Cursor} {l : Tally} → p ≡ Ok (f, l) → EntriesRead (λ m. entry_list m s opens closes c) s w c k (Ok (closed c f, l)) v
     list_got {f} {l} g =
         let o = u.on i d e in
         let o₂ = t.on f l g in
         meets_got s w c k (omega arith) t.kept
         (λ m lo. gone_on (entries_or_none m s closes d) (t.is m (omega arith)) g λ es a al av fi.
-        made_got es (list_is m ∙ rw (took u e, a)) (ap (Got (closed c f)) al) av fi)
+        made_got es (list_is m ∙ rw (took u e, a)) (ap (λ x. Ok (closed c f, x)) al) av fi)

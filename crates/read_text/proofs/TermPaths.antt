@@ -6,32 +6,31 @@ use Prim.Native.Nat.{ℕ, suc, ◌+◌, ◌*◌, ◌<◌}
 use native.Mathlib.Omega.{arith}
 use lib.Dec.{eqb}
 use borrow.Author.Tests.{eq-eqb, ne_eqb}
+use Rattle.std.specs.Prelude.{Ok, Err}
 use Rattle.notation.specs.Fine.{FineProcess}
 use Rattle.notation.specs.Limits.{text_limit, process_term_limit}
 use Rattle.notation.specs.Token.{kind_at, token_at, k_fwd, k_name, k_cancel, k_raise, k_send, k_semicolon}
 use Rattle.notation.specs.Onward.{Onward}
 use Rattle.notation.specs.Tree.{Located, Proc, empty, cancel, fwd, raise}
-use Rattle.notation.specs.Reader.{Result, got, on_token, lastly, expect, misfit, process_term, name_in}
+use Rattle.notation.specs.Refusals.{OrRefusal}
+use Rattle.notation.specs.Reader.{Result, Taken, got, on_token, lastly, expect, misfit, process_term, name_in}
 use Rattle.notation.specs.Processes.{payload, send_by, process_by, rest_by, read_process, read_rest}
 use Rattle.notation.specs.Tables.{more_terms, term_node, put_term, empty_pointer, after_process, write_process}
 use Rattle.notation.specs.declared.token.Token.{Token}
+use Rattle.notation.specs.declared.refusal.Refusal.{Refusal}
 use Rattle.notation.specs.declared.reading.Cursor.{Cursor}
 use Rattle.notation.specs.declared.reading.Tally.{Tally}
 use Rattle.notation.specs.declared.reading.TermNode.{TermNode}
-use Rattle.notation.specs.declared.reading.Taken.{Taken}
-use Rattle.notation.specs.declared.reading.Taken.TheVariants.{At, Refused}
 use Rattle.notation.specs.declared.token.TermHead.TheVariants.{Send, Fwd, Cancel, Raise}
 use Rattle.notation.specs.declared.token.Payload.{Payload}
 use Rattle.notation.specs.declared.token.Payload.TheVariants.{Unit as UnitPayload, Channel, Label, Other}
-use Rattle.read_types.specs.declared.steps.Out.{Out}
-use Rattle.read_types.specs.declared.steps.Out.TheVariants.{Got}
-use Rattle.read_types.specs.Filling.{Kept, Stepped, as_out, Room, Meets, unread}
-use Rattle.read_types.proofs.Filled.{same, ◌upon◌, took, refused_out, made_got, meets_no, meets_got, more_no, more_got, more_made}
+use Rattle.read_types.specs.Filling.{Out, Kept, Stepped, Room, Meets, unread}
+use Rattle.read_types.proofs.Filled.{same, ◌upon◌, took, made_got, meets_no, meets_got, more_no, more_got, more_made}
 use Rattle.read_text.specs.declared.turns.Turn.{Turn}
 use Rattle.read_text.specs.declared.turns.Turn.TheVariants.{On, Done}
 use Rattle.read_text.specs.Turns.{peek, pointing, node_form, ProcessRead, RestTurned}
 use Rattle.read_text.specs.Processes.{payload_taken, payload_node, sent_of, sent_node, TermRead, TermTurned, SentTurned}
-use Rattle.read_text.proofs.Turning.{term_kept, made_as, meets_as, lastly_same, turn_done, turn_on, turn_under}
+use Rattle.read_text.proofs.Turning.{turn_no, term_kept, made_as, meets_as, lastly_same, turn_done, turn_on, turn_under}
 use Rattle.read_text.proofs.Pointers.{pointer_at}
 
 -- ── after a term
@@ -47,7 +46,7 @@ module _ (i : ℕ) (n : TermNode) (s w : List ℕ) (c : Cursor) (k : Tally) (roo
 
   -- nothing follows
   pub rest_none : ((t.kind ≡ k_semicolon) → ⊥) → {v : List ℕ} → v ≡ put_term w i (pointing n (empty_pointer t.start))
-      → RestTurned i n s w c k (Done (Got c k)) v
+      → RestTurned i n s w c k (Ok (Done c k)) v
   unfolding rest_by after_process write_process FineProcess
   rest_none d x =
       turn_done (more_got (node_form i n) s w c k (λ m. read_rest m s c) (omega (arith, o.starts)) (term_kept w i (pointing n (empty_pointer t.start)) few x)
@@ -58,11 +57,11 @@ module _ (i : ℕ) (n : TermNode) (s w : List ℕ) (c : Cursor) (k : Tally) (roo
     semicolon : eqb (kind_at s c.at) k_semicolon ≡ true
     semicolon = eq-eqb _ _ (kind_is ∙ e)
 
-    pub rest_no : {r : Out} {m j : ℕ} → q ≡ Refused m j → r ≡ as_out q → RestTurned i n s w c k (Done r) w
+    pub rest_no : {t : OrRefusal Turn} {y : Refusal} → q ≡ Err y → t ≡ Err y → RestTurned i n s w c k t w
     unfolding rest_by
-    rest_no g h = turn_done (more_no (node_form i n) s w c k (λ m. read_rest m s c) (refused_out g h) same (λ m _. rest_suc m s c ∙ rw (semicolon, took u g)))
+    rest_no g h = turn_no h (more_no (node_form i n) s w c k (λ m. read_rest m s c) refl same (λ m _. rest_suc m s c ∙ rw (semicolon, took u g)))
 
-    module _ {j : ℕ} {d : Cursor} (g : q ≡ At j d) {v : List ℕ} (x : v ≡ put_term w i (pointing n (peek s d.at k.terms))) where
+    module _ {j : ℕ} {d : Cursor} (g : q ≡ Ok (j, d)) {v : List ℕ} (x : v ≡ put_term w i (pointing n (peek s d.at k.terms))) where
       rest_kept : Kept w v
       rest_kept = term_kept w i (pointing n (peek s d.at k.terms)) few x
 
@@ -82,7 +81,7 @@ module _ (i : ℕ) (n : TermNode) (s w : List ℕ) (c : Cursor) (k : Tally) (roo
           }
 
       -- the process after the semicolon: its answer is the rest's
-      pub rest_on : RestTurned i n s w c k (On d k) v
+      pub rest_on : RestTurned i n s w c k (Ok (On d k)) v
       rest_on =
           let z = u.on j d g in
           turn_on rest_kept (record { room = omega (arith, rest_kept.long); later = omega arith; whole = rest_whole })
@@ -123,10 +122,10 @@ sent_fine s Other at i j P a b d f = (a, b, f)
 -- ── what is sent, and the rest
 module _ (s w : List ℕ) (c : Cursor) (k : Tally) (room : Room s w c (more_terms k)) (at i : ℕ) (a : at < text_limit) (b : i < text_limit) (h : Payload) {q : Taken}
     (u : Stepped s c 1 0 0 (payload_taken s c h) q) where
-  pub sent_no : {r : Out} {n j : ℕ} → q ≡ Refused n j → r ≡ as_out q → SentTurned at i h s w c k (Done r) w
-  sent_no g y = turn_done (meets_no s w c (more_terms k) (refused_out g y) same (λ m _. sent_is _ s at (name_in s i) c h ∙ rw (took u g)))
+  pub sent_no : {t : OrRefusal Turn} {y : Refusal} → q ≡ Err y → t ≡ Err y → SentTurned at i h s w c k t w
+  sent_no g y = turn_no y (meets_no s w c (more_terms k) refl same (λ m _. sent_is _ s at (name_in s i) c h ∙ rw (took u g)))
 
-  pub sent_on : {j : ℕ} {d : Cursor} → q ≡ At j d → {n : TermNode} → n ≡ sent_node h at i j → {t : Turn} {v : List ℕ}
+  pub sent_on : {j : ℕ} {d : Cursor} → q ≡ Ok (j, d) → {n : TermNode} → n ≡ sent_node h at i j → {t : OrRefusal Turn} {v : List ℕ}
       → RestTurned k.terms n s w d (more_terms k) t v
       → SentTurned at i h s w c k t v
   sent_on {j} {d} e {n} ne {t} y =
@@ -144,16 +143,16 @@ module _ (s w : List ℕ) (c : Cursor) (k : Tally) (room : Room s w c (more_term
 module _ (s w : List ℕ) (c : Cursor) (k : Tally) (room : Room s w c k) where
   -- send
   module _ {q : Taken} (u : Stepped s c 1 0 1 (process_term s k_send c) q) where
-    pub send_no : {r : Out} {n i : ℕ} → q ≡ Refused n i → r ≡ as_out q → TermTurned Send s w c k (Done r) w
+    pub send_no : {t : OrRefusal Turn} {y : Refusal} → q ≡ Err y → t ≡ Err y → TermTurned Send s w c k t w
     unfolding process_by
-    send_no g h = turn_done (meets_no s w c k (refused_out g h) same (λ m _. rw (took u g)))
+    send_no g h = turn_no h (meets_no s w c k refl same (λ m _. rw (took u g)))
 
-    module _ {at : ℕ} {d : Cursor} (e : q ≡ At at d) {x : Taken} (y : Stepped s d 1 0 0 (expect s k_name d) x) where
-      pub send_name_no : {r : Out} {n i : ℕ} → x ≡ Refused n i → r ≡ as_out x → TermTurned Send s w c k (Done r) w
+    module _ {at : ℕ} {d : Cursor} (e : q ≡ Ok (at, d)) {x : Taken} (y : Stepped s d 1 0 0 (expect s k_name d) x) where
+      pub send_name_no : {t : OrRefusal Turn} {y : Refusal} → x ≡ Err y → t ≡ Err y → TermTurned Send s w c k t w
       unfolding process_by
-      send_name_no g h = turn_done (meets_no s w c k (refused_out g h) same (λ m _. rw (took u e, took y g)))
+      send_name_no g h = turn_no h (meets_no s w c k refl same (λ m _. rw (took u e, took y g)))
 
-      pub send_on : {i : ℕ} {f : Cursor} → x ≡ At i f → {h : Payload} → h ≡ payload (kind_at s f.at) → {t : Turn} {v : List ℕ}
+      pub send_on : {i : ℕ} {f : Cursor} → x ≡ Ok (i, f) → {h : Payload} → h ≡ payload (kind_at s f.at) → {t : OrRefusal Turn} {v : List ℕ}
           → SentTurned at i h s w f k t v → TermTurned Send s w c k t v
       unfolding process_by
       send_on {i} {f} g {h} p {t} z =
@@ -166,16 +165,16 @@ module _ (s w : List ℕ) (c : Cursor) (k : Tally) (room : Room s w c k) where
 
   -- cancel
   module _ {q : Taken} (u : Stepped s c 1 0 1 (process_term s k_cancel c) q) where
-    pub cancel_no : {r : Out} {n i : ℕ} → q ≡ Refused n i → r ≡ as_out q → TermTurned Cancel s w c k (Done r) w
+    pub cancel_no : {t : OrRefusal Turn} {y : Refusal} → q ≡ Err y → t ≡ Err y → TermTurned Cancel s w c k t w
     unfolding process_by
-    cancel_no g h = turn_done (meets_no s w c k (refused_out g h) same (λ m _. rw (took u g)))
+    cancel_no g h = turn_no h (meets_no s w c k refl same (λ m _. rw (took u g)))
 
-    module _ {at : ℕ} {d : Cursor} (e : q ≡ At at d) {x : Taken} (y : Stepped s d 1 0 0 (expect s k_name d) x) where
-      pub cancel_name_no : {r : Out} {n i : ℕ} → x ≡ Refused n i → r ≡ as_out x → TermTurned Cancel s w c k (Done r) w
+    module _ {at : ℕ} {d : Cursor} (e : q ≡ Ok (at, d)) {x : Taken} (y : Stepped s d 1 0 0 (expect s k_name d) x) where
+      pub cancel_name_no : {t : OrRefusal Turn} {y : Refusal} → x ≡ Err y → t ≡ Err y → TermTurned Cancel s w c k t w
       unfolding process_by
-      cancel_name_no g h = turn_done (meets_no s w c k (refused_out g h) same (λ m _. rw (took u e, took y g)))
+      cancel_name_no g h = turn_no h (meets_no s w c k refl same (λ m _. rw (took u e, took y g)))
 
-      pub cancel_on : {i : ℕ} {f : Cursor} → x ≡ At i f → {n : TermNode} → n ≡ term_node 4 at i 0 0 → {t : Turn} {v : List ℕ} → RestTurned k.terms n s w f (more_terms k) t v
+      pub cancel_on : {i : ℕ} {f : Cursor} → x ≡ Ok (i, f) → {n : TermNode} → n ≡ term_node 4 at i 0 0 → {t : OrRefusal Turn} {v : List ℕ} → RestTurned k.terms n s w f (more_terms k) t v
           → TermTurned Cancel s w c k t v
       unfolding process_by after_process write_process FineProcess
       cancel_on {i} {f} g ne {t} z =
@@ -188,13 +187,13 @@ module _ (s w : List ℕ) (c : Cursor) (k : Tally) (room : Room s w c k) where
 
   -- raise
   module _ {q : Taken} (u : Stepped s c 1 0 1 (process_term s k_raise c) q) where
-    pub raise_no : {r : Out} {n i : ℕ} → q ≡ Refused n i → r ≡ as_out q → TermTurned Raise s w c k (Done r) w
+    pub raise_no : {t : OrRefusal Turn} {y : Refusal} → q ≡ Err y → t ≡ Err y → TermTurned Raise s w c k t w
     unfolding process_by
-    raise_no g h = turn_done (meets_no s w c k (refused_out g h) same (λ m _. rw (took u g)))
+    raise_no g h = turn_no h (meets_no s w c k refl same (λ m _. rw (took u g)))
 
-    pub raise_on : {at : ℕ} {d : Cursor} → q ≡ At at d → {n : TermNode} → n ≡ term_node 11 at 0 0 0 → {v : List ℕ}
+    pub raise_on : {at : ℕ} {d : Cursor} → q ≡ Ok (at, d) → {n : TermNode} → n ≡ term_node 11 at 0 0 0 → {v : List ℕ}
         → v ≡ put_term w k.terms (pointing n (peek s d.at (k.terms + 1)))
-        → TermTurned Raise s w c k (On d (more_terms k)) v
+        → TermTurned Raise s w c k (Ok (On d (more_terms k))) v
     unfolding process_by after_process write_process FineProcess
     raise_on {at} {d} e ne put =
         let o = u.on at d e in
@@ -215,22 +214,22 @@ module _ (s w : List ℕ) (c : Cursor) (k : Tally) (room : Room s w c k) where
 
   -- fwd
   module _ {q : Taken} (u : Stepped s c 1 0 1 (process_term s k_fwd c) q) where
-    pub fwd_no : {r : Out} {n i : ℕ} → q ≡ Refused n i → r ≡ as_out q → TermRead Fwd s w c k r w
+    pub fwd_no : {r : Out} {y : Refusal} → q ≡ Err y → r ≡ Err y → TermRead Fwd s w c k r w
     unfolding process_by
-    fwd_no g h = meets_no s w c k (refused_out g h) same (λ m _. rw (took u g))
+    fwd_no g h = meets_no s w c k h same (λ m _. rw (took u g))
 
-    module _ {at : ℕ} {d : Cursor} (e : q ≡ At at d) {x : Taken} (y : Stepped s d 1 0 0 (expect s k_name d) x) where
-      pub fwd_provided_no : {r : Out} {n i : ℕ} → x ≡ Refused n i → r ≡ as_out x → TermRead Fwd s w c k r w
+    module _ {at : ℕ} {d : Cursor} (e : q ≡ Ok (at, d)) {x : Taken} (y : Stepped s d 1 0 0 (expect s k_name d) x) where
+      pub fwd_provided_no : {r : Out} {y : Refusal} → x ≡ Err y → r ≡ Err y → TermRead Fwd s w c k r w
       unfolding process_by
-      fwd_provided_no g h = meets_no s w c k (refused_out g h) same (λ m _. rw (took u e, took y g))
+      fwd_provided_no g h = meets_no s w c k h same (λ m _. rw (took u e, took y g))
 
-      module _ {i : ℕ} {f : Cursor} (g : x ≡ At i f) {z : Taken} (o : Stepped s f 1 0 0 (expect s k_name f) z) where
-        pub fwd_used_no : {r : Out} {n j : ℕ} → z ≡ Refused n j → r ≡ as_out z → TermRead Fwd s w c k r w
+      module _ {i : ℕ} {f : Cursor} (g : x ≡ Ok (i, f)) {z : Taken} (o : Stepped s f 1 0 0 (expect s k_name f) z) where
+        pub fwd_used_no : {r : Out} {y : Refusal} → z ≡ Err y → r ≡ Err y → TermRead Fwd s w c k r w
         unfolding process_by
-        fwd_used_no h l = meets_no s w c k (refused_out h l) same (λ m _. rw (took u e, took y g, took o h))
+        fwd_used_no h l = meets_no s w c k l same (λ m _. rw (took u e, took y g, took o h))
 
-        pub fwd_got : {j : ℕ} {b : Cursor} {v : List ℕ} → z ≡ At j b → {n : TermNode} → n ≡ term_node 9 at i j 0 → v ≡ put_term w k.terms n
-            → TermRead Fwd s w c k (Got b (more_terms k)) v
+        pub fwd_got : {j : ℕ} {b : Cursor} {v : List ℕ} → z ≡ Ok (j, b) → {n : TermNode} → n ≡ term_node 9 at i j 0 → v ≡ put_term w k.terms n
+            → TermRead Fwd s w c k (Ok (b, more_terms k)) v
         unfolding process_by after_process write_process FineProcess
         fwd_got {j} {b} h ne put =
             let x = put ∙ ap (put_term w k.terms) ne in

@@ -5,24 +5,22 @@ use mathlib.Core.Bool.{Bool, true, false}
 use Prim.Native.Nat.{ℕ, ◌+◌, ◌*◌, ◌<◌, ◌≤◌}
 use native.Mathlib.Omega.{arith}
 use lib.ListN.{length, set, length-set}
-use Rattle.notation.specs.Reader.{Result, got, refused, lastly, limited}
+use Rattle.std.specs.Prelude.{Ok, Err}
+use Rattle.notation.specs.Refusals.{OrRefusal, refusal}
+use Rattle.notation.specs.Reader.{Result, Taken, got, refused, lastly, limited}
 use Rattle.notation.specs.Limits.{text_limit, process_term_limit}
 use Rattle.notation.specs.Token.{token_at, kind_at}
 use Rattle.notation.specs.Processes.{term_head, read_process}
-use Rattle.notation.specs.declared.token.Token.{Token}
 use Rattle.notation.specs.declared.token.TermHead.{TermHead}
+use Rattle.notation.specs.declared.refusal.Refusal.{Refusal}
 use Rattle.notation.specs.declared.reading.Cursor.{Cursor}
 use Rattle.notation.specs.Tables.{terms_at, term_word, term_word', put_term}
 use Rattle.notation.specs.declared.reading.Tally.{Tally}
 use Rattle.notation.specs.declared.reading.TermNode.{TermNode}
-use Rattle.notation.specs.declared.reading.Taken.{Taken}
-use Rattle.notation.specs.declared.reading.Taken.TheVariants.{At, Refused}
-use Rattle.read_types.specs.declared.steps.Out.{Out}
-use Rattle.read_types.specs.declared.steps.Out.TheVariants.{Got}
-use Rattle.read_types.specs.Filling.{Kept, Room, Form, Made, Meets, unread}
+use Rattle.read_types.specs.Filling.{Out, Kept, Room, Form, Made, Meets, unread}
 use Rattle.read_text.specs.declared.turns.Turn.{Turn}
 use Rattle.read_text.specs.declared.turns.Turn.TheVariants.{On, Done}
-use Rattle.read_text.specs.Turns.{ProcessRead, Onward, Turned, TurnRead, finished_out, process_form}
+use Rattle.read_text.specs.Turns.{ProcessRead, Onward, Turned, TurnRead, process_form}
 use Rattle.read_types.proofs.Taking.{never}
 use Rattle.read_types.proofs.Filled.{same, ◌upon◌, kept_set}
 
@@ -38,20 +36,16 @@ module _ (w : List ℕ) (i : ℕ) (n : TermNode) {v : List ℕ} where
   term_long e = ap length e ∙ length-set (set w (terms_at + 2 * i) (term_word n)) (terms_at + 2 * i + 1) (term_word' n) ∙ length-set w (terms_at + 2 * i)
       (term_word n)
 
--- ── the token that a term begins with, as the code has it
-module _ (s : List ℕ) (at : ℕ) {t : Token} (e : t ≡ token_at s at) where
-  pub head_is : {h x : TermHead} → h ≡ term_head t.kind → h ≡ x → term_head (kind_at s at) ≡ x
-  head_is q z = ap (λ (y : Token). term_head y.kind) (sym e) ∙ sym q ∙ z
-
-  pub start_is : t.start ≤ text_limit → (token_at s at).start ≤ text_limit
-  start_is l = subst (λ (y : Token). y.start ≤ text_limit) e l
+-- ── what a term begins with, as the code has it
+pub head_is : (s : List ℕ) (at : ℕ) {kind : ℕ} {h x : TermHead} → kind ≡ kind_at s at → h ≡ term_head kind → h ≡ x → term_head (kind_at s at) ≡ x
+head_is s at e q z = ap term_head (sym e) ∙ sym q ∙ z
 
 -- a step that was taken within a limit, whatever followed it
-pub limit_held : (after : Taken → Taken) → ((n i : ℕ) → after (Refused n i) ≡ Refused n i) → (t : Taken) (b : Bool) {i : ℕ} {d : Cursor}
-    → after (limited t (λ _. b) (λ d. d)) ≡ At i d → b ≡ true
+pub limit_held : (after : Taken → Taken) → ((y : Refusal) → after (Err y) ≡ Err y) → (t : Taken) (b : Bool) {i : ℕ} {d : Cursor}
+    → after (limited t (λ _. b) (λ d. d)) ≡ Ok (i, d) → b ≡ true
 limit_held after h t true e = refl
-limit_held after h (At j f) false e = never (sym (h 5 j) ∙ e)
-limit_held after h (Refused n j) false e = never (sym (h n j) ∙ e)
+limit_held after h (Ok (j, f)) false e = never (sym (h (refusal 5 j)) ∙ e)
+limit_held after h (Err y) false e = never (sym (h y) ∙ e)
 
 -- ── an answer for a, as one for the tree over it
 -- the tree b, from k' and w' on, is counted and written as a is
@@ -68,7 +62,7 @@ module _ {A B : Type 0} {F : Form A} {G : Form B} {s w : List ℕ} {c : Cursor} 
       go : (y : Result A) → f m ≡ y → Made F w k y r v → Made G w' k' (lastly h y) r v
       go (got a d) q y =
           let z = words a d q y.said.2 (t.on d (F.after a k) y.said.0) in
-          record { said = (y.said.0 ∙ ap (Got d) z.0, y.said.1 ∙ z.1, z.2) }
+          record { said = (y.said.0 ∙ ap (λ x. Ok (d, x)) z.0, y.said.1 ∙ z.1, z.2) }
       go (refused n i) q y = record { said = y.said }
 
   pub meets_as : {c' : Cursor} {b' : ℕ} {g : ℕ → Result B} → ((m : ℕ) → b' < m → (g m ≡ lastly h (f m)) × (b < m)) → Kept w' w
@@ -88,21 +82,25 @@ lastly_same (refused n i) = refl
 
 -- ── turns
 module _ {A : Type 0} {F : Form A} {s w : List ℕ} {c : Cursor} {k : Tally} {b : ℕ} {f : ℕ → Result A} {v : List ℕ} where
-  -- a turn that is the answer, and one that a process follows
-  pub turn_done : {r : Out} → Meets F s w c k b f r v → Turned F s w c k b f (Done r) v
+  -- a turn that is refused, one that is the answer, and one that a process follows
+  pub turn_no : {t : OrRefusal Turn} {y : Refusal} → t ≡ Err y → Meets F s w c k b f (Err y) v → Turned F s w c k b f t v
+  turn_no e m = rw e (record { said = m; kept = m.kept })
+
+  pub turn_done : {d : Cursor} {l : Tally} → Meets F s w c k b f (Ok (d, l)) v → Turned F s w c k b f (Ok (Done d l)) v
   turn_done m = record { said = m; kept = m.kept }
 
-  pub turn_on : {d : Cursor} {l : Tally} → Kept w v → Onward F s w c k b f v d l → Turned F s w c k b f (On d l) v
+  pub turn_on : {d : Cursor} {l : Tally} → Kept w v → Onward F s w c k b f v d l → Turned F s w c k b f (Ok (On d l)) v
   turn_on g o = record { said = o; kept = g }
 
   -- a turn under what went before it
-  pub turn_under : {B : Type 0} {G : Form B} {w' : List ℕ} {c' : Cursor} {k' : Tally} {b' : ℕ} {g : ℕ → Result B} (t : Turn) → c'.at ≤ c.at → Kept w' w
+  pub turn_under : {B : Type 0} {G : Form B} {w' : List ℕ} {c' : Cursor} {k' : Tally} {b' : ℕ} {g : ℕ → Result B} (t : OrRefusal Turn) → c'.at ≤ c.at → Kept w' w
       → ((r : Out) (u : List ℕ) → Meets F s w c k b f r u → Meets G s w' c' k' b' g r u) → Turned F s w c k b f t v → Turned G s w' c' k' b' g t v
-  turn_under (On d l) h q go m =
+  turn_under (Ok (On d l)) h q go m =
       let o = m.said in
       let y = o.later in
       record { said = record { room = o.room; later = omega arith; whole = λ r u p. go r u (o.whole r u p) }; kept = m.kept upon q }
-  turn_under (Done r) h q go m = record { said = go r v m.said; kept = m.kept upon q }
+  turn_under (Ok (Done d l)) h q go m = record { said = go (Ok (d, l)) v m.said; kept = m.kept upon q }
+  turn_under (Err y) h q go m = record { said = go (Err y) v m.said; kept = m.kept upon q }
 
 -- ── a loop over what follows: the answer from here, with these words, is the answer of the whole
 pub record Through (R : List ℕ → Cursor → Tally → Out → List ℕ → Type 0) (s w₀ : List ℕ) (c₀ : Cursor) (k₀ : Tally) (w : List ℕ) (c : Cursor)
@@ -123,20 +121,21 @@ through_on h room later g on =
     record { room = room; later = omega arith; kept = g upon h.kept; whole = λ r u a. h.whole r u (on r u a) }
 
 -- ── the loop over the terms of a process
-module _ {s w₀ w v : List ℕ} {c₀ c : Cursor} {k₀ k : Tally} {t : Turn} (h : Through (ProcessRead s) s w₀ c₀ k₀ w c k) (a : TurnRead s w c k t v) where
-  onward : {d : Cursor} {l : Tally} → t ≡ On d l → Onward process_form s w c k (3 * unread s c + 1) (λ m. read_process m s c) v d l
+module _ {s w₀ w v : List ℕ} {c₀ c : Cursor} {k₀ k : Tally} {t : OrRefusal Turn} (h : Through (ProcessRead s) s w₀ c₀ k₀ w c k) (a : TurnRead s w c k t v) where
+  onward : {d : Cursor} {l : Tally} → t ≡ Ok (On d l) → Onward process_form s w c k (3 * unread s c + 1) (λ m. read_process m s c) v d l
   onward e = (subst (λ x. TurnRead s w c k x v) e a).said
 
-  pub turns_later : {d : Cursor} {l : Tally} → t ≡ On d l → (c.at < d.at) × (d.at ≤ length s)
+  pub turns_later : {d : Cursor} {l : Tally} → t ≡ Ok (On d l) → (c.at < d.at) × (d.at ≤ length s)
   turns_later e = let o = onward e in (o.later, o.room.2)
 
-  pub turns_on : {d : Cursor} {l : Tally} → t ≡ On d l → Through (ProcessRead s) s w₀ c₀ k₀ v d l
+  pub turns_on : {d : Cursor} {l : Tally} → t ≡ Ok (On d l) → Through (ProcessRead s) s w₀ c₀ k₀ v d l
   turns_on e =
       let o = onward e in
       let y = o.later in
       through_on h o.room (omega arith) a.kept o.whole
 
-  pub turns_end : {r o : Out} → t ≡ Done r → o ≡ finished_out t → ProcessRead s w₀ c₀ k₀ o v
-  turns_end {r} {o} e q =
-      let z : o ≡ r = q ∙ ap finished_out e in
-      subst (λ x. ProcessRead s w₀ c₀ k₀ x v) (sym z) (h.whole r v (subst (λ x. TurnRead s w c k x v) e a).said)
+  pub turns_end : {d : Cursor} {l : Tally} → t ≡ Ok (Done d l) → ProcessRead s w₀ c₀ k₀ (Ok (d, l)) v
+  turns_end {d} {l} e = h.whole (Ok (d, l)) v (subst (λ x. TurnRead s w c k x v) e a).said
+
+  pub turns_no : {r : Out} {y : Refusal} → t ≡ Err y → r ≡ Err y → ProcessRead s w₀ c₀ k₀ r v
+  turns_no {y = y} e q = rw q (h.whole (Err y) v (subst (λ x. TurnRead s w c k x v) e a).said)

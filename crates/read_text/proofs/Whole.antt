@@ -7,45 +7,35 @@ use borrow.Author.Tests.{lt-leb, le-leb}
 use native.Mathlib.Decide.{ℕ_discrete}
 use lib.ListN.{length, get_or, set, drop, get_or-replicate}
 use lib.Seq.{ext_get_or, get_or-set_same, get_or-set_other}
+use Rattle.std.specs.Prelude.{Ok, Err}
 use Rattle.notation.specs.Limits.{text_limit, scratch_words}
 use Rattle.notation.specs.Tree.{Declaration}
 use Rattle.notation.specs.Reader.{got, refused}
 use Rattle.notation.specs.Scripts.{read_text, read_script, start, fuel}
 use Rattle.notation.specs.Tables.{after_script, write_script, write_counts, nothing, zeros, tables, tables_of, Within}
 use Rattle.notation.specs.Layout.{zeros_length}
+use Rattle.notation.specs.declared.refusal.Refusal.{Refusal}
 use Rattle.notation.specs.declared.reading.Cursor.{Cursor}
 use Rattle.notation.specs.declared.reading.Tally.{Tally}
-use Rattle.read_types.specs.declared.steps.Out.{Out}
-use Rattle.read_types.specs.declared.steps.Out.TheVariants.{Got, Not}
-use Rattle.read_text.specs.declared.reading.Reading.{Reading}
-use Rattle.read_text.specs.declared.reading.Reading.TheVariants.{Read, Refused}
+use Rattle.notation.specs.Refusals.{OrRefusal, refuses}
+use Rattle.notation.specs.declared.script.Script.{Script}
+use Rattle.read_types.specs.Filling.{Out}
 use Rattle.read_text.specs.Scripts.{ScriptRead}
 use Rattle.read_text.specs.Reading.{Filled, TextRead}
 use Rattle.read_types.proofs.Filled.{gone_on, stopped}
 
-pub all_zero : (p : List ℕ) → length p ≡ scratch_words → ((j : ℕ) → j < scratch_words → get_or p j 0 ≡ 0) → p ≡ zeros
-all_zero p l h = ext_get_or 0 p zeros (l ∙ sym zeros_length)
-    (λ i m. h i (omega arith) ∙ sym (get_or-replicate {A = ℕ} scratch_words i 0 0 (omega arith)))
-
 pub zeros_long : (v : List ℕ) → v ≡ zeros → length v ≡ scratch_words
 zeros_long v e = ap length e ∙ zeros_length
-
-pub zero_more : (p : List ℕ) (k : ℕ) → k < length p → ((j : ℕ) → j < k → get_or p j 0 ≡ 0) → (j : ℕ) → j < k + 1 → get_or (set p k 0) j 0 ≡ 0
-zero_more p k l h j m = at (ℕ_discrete j k)
-  where
-    at : Dec (j ≡ k) → get_or (set p k 0) j 0 ≡ 0
-    at (yes e) = ap (λ i. get_or (set p k 0) i 0) e ∙ get_or-set_same p k 0 0 l
-    at (no q) = get_or-set_other p k j 0 0 q ∙ h j (omega arith)
 
 -- what is refused is not read
 not_read : {P : Type 0} {n i : ℕ} {ds : List Declaration} {d : Cursor} → refused n i ≡ got ds d → P
 not_read e = absurd (let z : ◌≡◌ {A = ℕ} 0 1 = cc in omega arith)
 
-filled_no : (s v : List ℕ) (n i : ℕ) → read_text s ≡ refused n i → v ≡ zeros → Filled s (Refused n i) v
+filled_no : (s v : List ℕ) (n i : ℕ) → read_text s ≡ refused n i → v ≡ zeros → Filled s (refuses n i) v
 unfolding tables
 filled_no s v n i x z = record { is = rw x; words = rw x z; fits = λ ds d e. not_read (sym x ∙ e) }
 
-pub fill_long : (s v : List ℕ) → text_limit < length s → v ≡ zeros → Filled s (Refused 2 text_limit) v
+pub fill_long : (s v : List ℕ) → text_limit < length s → v ≡ zeros → Filled s (refuses 2 text_limit) v
 unfolding read_text
 fill_long s v h z = filled_no s v 2 text_limit (rw (lt-leb _ _ h)) z
 
@@ -59,24 +49,24 @@ unfolding read_text
 read_is s h = rw (le-leb _ _ h)
 
 module _ (s w v : List ℕ) {r : Out} (h : length s ≤ text_limit) (t : ScriptRead s w start nothing r v) where
-  pub fill_no : {n i : ℕ} {v₂ : List ℕ} → r ≡ Not n i → v₂ ≡ zeros → Filled s (Refused n i) v₂
-  fill_no {n} {i} {v₂} q z = filled_no s v₂ n i (read_is s h ∙ stopped (read_script (fuel s) s _ start) (t.is (fuel s) (omega arith)) q) z
+  pub fill_no : {y : Refusal} {v₂ : List ℕ} → r ≡ Err y → v₂ ≡ zeros → Filled s (Err y) v₂
+  fill_no {y} {v₂} q z = filled_no s v₂ y.number y.at (read_is s h ∙ stopped (read_script (fuel s) s _ start) (t.is (fuel s) (omega arith)) q) z
 
-  pub fill_got : {d : Cursor} {l : Tally} {v₂ : List ℕ} → w ≡ zeros → r ≡ Got d l → v₂ ≡ write_counts l v
-      → Filled s (Read (record { types = l.types; processes = l.processes; execs = l.execs })) v₂
+  pub fill_got : {d : Cursor} {l : Tally} {v₂ : List ℕ} → w ≡ zeros → r ≡ Ok (d, l) → v₂ ≡ write_counts l v
+      → Filled s (Ok (record { types = l.types; processes = l.processes; execs = l.execs })) v₂
   unfolding tables tables_of
   fill_got {d} {l} {v₂} z q x =
       gone_on (read_script (fuel s) s _ start) (t.is (fuel s) (omega arith)) q λ ds a al av _.
       let same : read_text s ≡ got ds d = read_is s h ∙ a in
       let o = t.on d l q in
       record {
-        is = rw same (λ j. Read (record { types = (al j).types; processes = (al j).processes; execs = (al j).execs }));
+        is = rw same (λ j. Ok (record { types = (al j).types; processes = (al j).processes; execs = (al j).execs }));
         words = rw same (x ∙ (λ j. write_counts (al j) (av j)) ∙ ap (λ w. write_counts (after_script ds nothing) (write_script ds nothing w)) z);
         fits = λ ds₂ d₂ e. same_fits ds ds₂ d d₂ (sym same ∙ e) (subst Within al (omega arith));
       }
 
-pub text_short : (s w : List ℕ) → length w < scratch_words → TextRead s w (Refused 1 0) w
+pub text_short : (s w : List ℕ) → length w < scratch_words → TextRead s w (refuses 1 0) w
 text_short s w h = record { short = λ _. (refl, refl); enough = λ l. absurd (omega arith) }
 
-pub text_full : (s w ys : List ℕ) (r : Reading) → scratch_words ≤ length w → Filled s r ys → TextRead s w r (ys ++ drop scratch_words w)
+pub text_full : (s w ys : List ℕ) (r : OrRefusal Script) → scratch_words ≤ length w → Filled s r ys → TextRead s w r (ys ++ drop scratch_words w)
 text_full s w ys r h f = record { short = λ m. absurd (omega arith); enough = λ _. (f.is, ap (λ x. x ++ drop scratch_words w) f.words, f.fits) }

@@ -1,18 +1,17 @@
 -- What the code that reads lists of names promises.
-use Rattle.std.specs.Prelude.{◌≡◌, ℕ, ◌<◌, ◌≤◌, List, [], eqb, length}
+use Rattle.std.specs.Prelude.{◌≡◌, ℕ, ◌<◌, ◌≤◌, List, [], eqb, length, Ok}
 use Rattle.notation.specs.Token.{kind_at, k_name}
 use Rattle.notation.specs.Tree.{Located}
-use Rattle.notation.specs.Reader.{Result, got, refused, on_token, choose, expect}
+use Rattle.notation.specs.Refusals.{refuses}
+use Rattle.notation.specs.Reader.{Result, Taken, got, refused, on_token, choose, expect}
 use Rattle.notation.specs.Processes.{read_names}
 use Rattle.notation.specs.declared.reading.Cursor.{Cursor}
-use Rattle.notation.specs.declared.reading.Taken.{Taken}
-use Rattle.notation.specs.declared.reading.Taken.TheVariants.{At, Refused}
 use Rattle.read_types.specs.Filling.{unread}
 
 -- the code keeps none of the names
 abbrev pub forget_names : ℕ → Result (List Located) → Taken
-forget_names i (got xs d) = At i d
-forget_names i (refused n j) = Refused n j
+forget_names i (got xs d) = Ok (i, d)
+forget_names i (refused n j) = refuses n j
 
 -- where a list of names goes on
 abbrev pub AheadNames : List ℕ → Cursor → ℕ → Cursor → Type 0
@@ -21,7 +20,7 @@ AheadNames s c i d = (c.at < d.at) × (d.at ≤ length s) × (i < length s) × (
 -- a list f of names is read, with the offset i
 pub record NamesTaken (s : List ℕ) (c : Cursor) (i : ℕ) (f : ℕ → Result (List Located)) (r : Taken) : Type 0 where
   pub is : (m : ℕ) → unread s c < m → r ≡ forget_names i (f m)
-  pub on : (j : ℕ) (d : Cursor) → r ≡ At j d → AheadNames s c j d
+  pub on : (j : ℕ) (d : Cursor) → r ≡ Ok (j, d) → AheadNames s c j d
 
 -- what stands in a list's brackets: names, or none
 abbrev pub list_end : List ℕ → ℕ → Cursor → Result (List Located)

@@ -1,20 +1,17 @@
 -- What the code that reads signatures, declarations and the script promises.
-use Rattle.std.specs.Prelude.{◌≡◌, ℕ, ◌+◌, ◌*◌, ◌<◌, ◌≤◌, List, [], length, eqb}
+use Rattle.std.specs.Prelude.{◌≡◌, ℕ, ◌+◌, ◌*◌, ◌<◌, ◌≤◌, List, [], length, eqb, Ok, Err}
 use Rattle.notation.specs.Fine.{FineEntries, FineDeclaration}
 use Rattle.notation.specs.Limits.{type_term_limit, process_term_limit, type_limit, process_limit, exec_limit}
 use Rattle.notation.specs.Token.{kind_at, k_name, k_colon, k_comma}
 use Rattle.notation.specs.Tree.{Entry, Declaration}
-use Rattle.notation.specs.Reader.{Result, got, on_token, choose, expect, misfit, then_token}
+use Rattle.notation.specs.Reader.{Result, Taken, got, on_token, choose, expect, misfit, then_token}
 use Rattle.notation.specs.Scripts.{Count, keyword, more_types, more_processes, more_execs, read_entries, type_declaration, proc_declaration, exec_declaration, read_script}
 use Rattle.notation.specs.Tables.{after_entries, write_entries, after_declaration, write_declaration, after_script, write_script}
 use Rattle.notation.specs.declared.reading.Cursor.{Cursor}
 use Rattle.notation.specs.declared.reading.Tally.{Tally}
-use Rattle.notation.specs.declared.reading.Taken.{Taken}
-use Rattle.notation.specs.declared.reading.Taken.TheVariants.{At, Refused}
 use Rattle.notation.specs.declared.token.DeclarationHead.{DeclarationHead}
 use Rattle.notation.specs.declared.token.DeclarationHead.TheVariants.{TypeWord, ProcWord, ExecWord, End, Other}
-use Rattle.read_types.specs.declared.steps.Out.{Out}
-use Rattle.read_types.specs.Filling.{SameDeclared, Form, Meets, unread}
+use Rattle.read_types.specs.Filling.{Out, SameDeclared, Form, Meets, unread}
 
 -- ── signatures
 unfoldable pub entry_name : List ℕ → Cursor → Taken
@@ -79,8 +76,8 @@ AheadDeclared s c k d l =
 
 -- a step, and then another, by which both are known
 abbrev pub after_token : Taken → (Cursor → Taken) → Taken
-after_token (At i d) f = f d
-after_token (Refused n i) f = Refused n i
+after_token (Ok (i, d)) f = f d
+after_token (Err e) f = Err e
 
 -- the keyword of a declaration within its limit, and its name
 unfoldable pub declared_name : List ℕ → ℕ → ℕ → ℕ → Cursor → Taken

@@ -1,9 +1,10 @@
 -- What the code that reads processes term by term promises: one turn of it, and the process that follows.
-use Rattle.std.specs.Prelude.{◌≡◌, ℕ, ◌+◌, ◌*◌, ◌<◌, ◌≤◌, List, length}
+use Rattle.std.specs.Prelude.{◌≡◌, ℕ, ◌+◌, ◌*◌, ◌<◌, ◌≤◌, List, length, Ok, Err}
 use Rattle.notation.specs.Fine.{FineProcess}
 use Rattle.notation.specs.Limits.{type_term_limit, process_term_limit}
 use Rattle.notation.specs.Token.{token_at, kind_at}
 use Rattle.notation.specs.Tree.{Proc}
+use Rattle.notation.specs.Refusals.{OrRefusal}
 use Rattle.notation.specs.Reader.{Result}
 use Rattle.notation.specs.Processes.{term_head, read_process, read_rest}
 use Rattle.notation.specs.Tables.{after_process, write_process, pointer_to, empty_pointer, put_term}
@@ -12,9 +13,7 @@ use Rattle.notation.specs.declared.reading.Tally.{Tally}
 use Rattle.notation.specs.declared.reading.TermNode.{TermNode}
 use Rattle.notation.specs.declared.token.TermHead.{TermHead}
 use Rattle.notation.specs.declared.token.TermHead.TheVariants.{Send, Recv, Fwd, Call, Cancel, Raise, Try, Spawn, Empty}
-use Rattle.read_types.specs.declared.steps.Out.{Out}
-use Rattle.read_types.specs.declared.steps.Out.TheVariants.{Not}
-use Rattle.read_types.specs.Filling.{Kept, SameDeclared, Room, Form, Meets, unread}
+use Rattle.read_types.specs.Filling.{Out, Kept, SameDeclared, Room, Form, Meets, unread}
 use Rattle.read_text.specs.declared.turns.Turn.{Turn}
 use Rattle.read_text.specs.declared.turns.Turn.TheVariants.{On, Done}
 
@@ -91,23 +90,19 @@ pub record Onward {A : Type 0} (F : Form A) (s w : List ℕ) (c : Cursor) (k : T
   pub later : c.at < d.at
   pub whole : (r : Out) (u : List ℕ) → ProcessRead s v d l r u → Meets F s w c k bound f r u
 
-abbrev pub TurnedOf : {A : Type 0} → Form A → List ℕ → List ℕ → Cursor → Tally → ℕ → (ℕ → Result A) → Turn → List ℕ → Type 0
-TurnedOf F s w c k bound f (On d l) v = Onward F s w c k bound f v d l
-TurnedOf F s w c k bound f (Done r) v = Meets F s w c k bound f r v
+abbrev pub TurnedOf : {A : Type 0} → Form A → List ℕ → List ℕ → Cursor → Tally → ℕ → (ℕ → Result A) → OrRefusal Turn → List ℕ → Type 0
+TurnedOf F s w c k bound f (Ok (On d l)) v = Onward F s w c k bound f v d l
+TurnedOf F s w c k bound f (Ok (Done d l)) v = Meets F s w c k bound f (Ok (d, l)) v
+TurnedOf F s w c k bound f (Err e) v = Meets F s w c k bound f (Err e) v
 
 -- one turn: a process follows, or the answer is here
-pub record Turned {A : Type 0} (F : Form A) (s w : List ℕ) (c : Cursor) (k : Tally) (bound : ℕ) (f : ℕ → Result A) (t : Turn) (v : List ℕ) : Type 0 where
+pub record Turned {A : Type 0} (F : Form A) (s w : List ℕ) (c : Cursor) (k : Tally) (bound : ℕ) (f : ℕ → Result A) (t : OrRefusal Turn) (v : List ℕ) : Type 0 where
   pub said : TurnedOf F s w c k bound f t v
   pub kept : Kept w v
 
--- the answer of a process that is read
-abbrev pub finished_out : Turn → Out
-finished_out (On d l) = Not 0 0
-finished_out (Done r) = r
-
-abbrev pub TurnRead : List ℕ → List ℕ → Cursor → Tally → Turn → List ℕ → Type 0
+abbrev pub TurnRead : List ℕ → List ℕ → Cursor → Tally → OrRefusal Turn → List ℕ → Type 0
 TurnRead s w c k = Turned process_form s w c k (3 * unread s c + 1) (λ m. read_process m s c)
 
 -- the rest of the term i, whose node is n
-abbrev pub RestTurned : ℕ → TermNode → List ℕ → List ℕ → Cursor → Tally → Turn → List ℕ → Type 0
+abbrev pub RestTurned : ℕ → TermNode → List ℕ → List ℕ → Cursor → Tally → OrRefusal Turn → List ℕ → Type 0
 RestTurned i n s w c k = Turned (node_form i n) s w c k (3 * unread s c + 1) (λ m. read_rest m s c)

@@ -5,27 +5,21 @@ ghost use Rattle.notation.specs.Token.{token_at};
 ghost use Rattle.notation.specs.Processes.{read_names, name_list};
 ghost use Rattle.read_text.specs.Names.{NamesTaken, list_end, names_or_none};
 
-use notation::reading::{Cursor, Taken};
+use notation::reading::Cursor;
+use notation::refusal::Refusal;
 use notation::token::Token;
 use read_types::steps::{expect, kind_at, opening};
 
 // Names with commas between them, up to the bracket that closes.
-fn read_names(text: &[u8], c: Cursor, close: usize) -> Taken
+fn read_names(text: &[u8], c: Cursor, close: usize) -> Result<(u16, Cursor), Refusal>
     requires { (length text.now ≤ text_limit) × (close ≤ 31) }
     ensures { NamesTaken text.now c 0 (λ m. read_names m text.now close c) result }
 {
     let mut b = c;
     loop {
-        let named = expect(text, b, Token::NAME);
-        let Taken::At(_, d) = named else {
-            return named;
-        };
-        let next = d.at;
-        if kind_at(text, next) == Token::COMMA {
-            let comma = expect(text, d, Token::COMMA);
-            let Taken::At(_, e) = comma else {
-                return comma;
-            };
+        let (_, d) = expect(text, b, Token::NAME)?;
+        if kind_at(text, d.at) == Token::COMMA {
+            let (_, e) = expect(text, d, Token::COMMA)?;
             b = e;
         } else {
             return list_end(text, d, close);
@@ -34,49 +28,42 @@ fn read_names(text: &[u8], c: Cursor, close: usize) -> Taken
 }
 
 // The bracket that closes a list of names.
-fn list_end(text: &[u8], c: Cursor, close: usize) -> Taken
+fn list_end(text: &[u8], c: Cursor, close: usize) -> Result<(u16, Cursor), Refusal>
     requires { (length text.now ≤ text_limit) × (close ≤ 31) }
     ensures { NamesTaken text.now c 0 (λ m. list_end text.now close c) result }
 {
-    let closed = expect(text, c, close);
-    let Taken::At(_, d) = closed else {
-        return closed;
-    };
-    Taken::At(0, d)
+    let (_, d) = expect(text, c, close)?;
+    Ok((0, d))
 }
 
 // What stands in a list's brackets, and the one that closes it.
-fn names_or_none(text: &[u8], c: Cursor, close: usize) -> Taken
+fn names_or_none(text: &[u8], c: Cursor, close: usize) -> Result<(u16, Cursor), Refusal>
     requires { (length text.now ≤ text_limit) × (close ≤ 31) }
     ensures { NamesTaken text.now c 0 (λ m. names_or_none m text.now close c) result }
 {
-    let next = c.at;
-    if kind_at(text, next) == Token::NAME {
+    if kind_at(text, c.at) == Token::NAME {
         return read_names(text, c, close);
     }
     list_end(text, c, close)
 }
 
 // A list of names in brackets; it is known by where it opens.
-pub(crate) fn name_list(text: &[u8], c: Cursor, opens: usize, closes: usize) -> Taken
+pub(crate) fn name_list(
+    text: &[u8],
+    c: Cursor,
+    opens: usize,
+    closes: usize,
+) -> Result<(u16, Cursor), Refusal>
     requires { (length text.now ≤ text_limit) × (opens ≤ 31) × (closes ≤ 31) }
     ensures { NamesTaken text.now c (token_at text.now c.at).start (λ m. name_list m text.now opens closes c) result }
 {
-    let opened = opening(text, c, opens);
-    let Taken::At(i, d) = opened else {
-        return opened;
-    };
-    let names = names_or_none(text, d, closes);
-    let Taken::At(_, e) = names else {
-        return names;
-    };
-    Taken::At(
+    let (i, d) = opening(text, c, opens)?;
+    let (_, e) = names_or_none(text, d, closes)?;
+    Ok((
         i,
         Cursor {
-            at: e.at,
-            types: e.types,
-            terms: e.terms,
             depth: c.depth,
+            ..e
         },
-    )
+    ))
 }

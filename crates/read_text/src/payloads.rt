@@ -8,10 +8,11 @@ ghost use Rattle.read_types.specs.Filling.{Stepped, FitsTerm};
 ghost use Rattle.read_text.specs.Processes.{payload_taken, payload_then, label_then, name_colon, payload_node};
 
 use crate::store::term_node;
-use notation::reading::{Cursor, Taken, TermNode};
+use notation::reading::{Cursor, TermNode};
+use notation::refusal::Refusal;
 use notation::token::{Payload, Token};
 use read_types::steps::{
-    expect, kind_at, label_term, misfit_token, opening, payload_head, process_term, then_expect,
+    expect, kind_at, label_term, misfit, opening, payload_head, process_term, then_expect,
 };
 
 // What stands at an offset where a send or a recv wants something.
@@ -23,31 +24,28 @@ pub(crate) fn payload_at(text: &[u8], at: u16) -> Payload
 }
 
 // The mark ().
-fn unit_mark(text: &[u8], c: Cursor) -> Taken
+#[tactic(auto, unfolding(notation::specs::Processes::unit_taken))]
+fn unit_mark(text: &[u8], c: Cursor) -> Result<(u16, Cursor), Refusal>
     requires { length text.now ≤ text_limit }
     ensures { Stepped text.now c 2 0 0 (unit_taken text.now c) result }
 {
-    let mark = then_expect(
+    let (i, d) = then_expect(
         text,
         opening(text, c, Token::ROUND_OPEN),
         Token::ROUND_CLOSE,
-    );
-    let Taken::At(i, d) = mark else {
-        return mark;
-    };
-    Taken::At(
+    )?;
+    Ok((
         i,
         Cursor {
-            at: d.at,
-            types: d.types,
-            terms: d.terms,
             depth: c.depth,
+            ..d
         },
-    )
+    ))
 }
 
 // What a send sends or a recv takes: (), a name or a label, as its head says.
-pub(crate) fn payload_token(text: &[u8], c: Cursor, head: Payload) -> Taken
+#[tactic(auto, unfolding(crate::specs::Processes::payload_taken))]
+pub(crate) fn payload_token(text: &[u8], c: Cursor, head: Payload) -> Result<(u16, Cursor), Refusal>
     requires { length text.now ≤ text_limit }
     ensures { Stepped text.now c 1 0 0 (payload_taken text.now c head) result }
 {
@@ -55,12 +53,13 @@ pub(crate) fn payload_token(text: &[u8], c: Cursor, head: Payload) -> Taken
         Payload::Unit => unit_mark(text, c),
         Payload::Channel => expect(text, c, Token::NAME),
         Payload::Label => expect(text, c, Token::LABEL),
-        Payload::Other => misfit_token(text, c),
+        Payload::Other => Err(misfit(text, c)),
     }
 }
 
 // What a recv takes, and =>.
-pub(crate) fn payload_then(text: &[u8], c: Cursor, head: Payload) -> Taken
+#[tactic(auto, unfolding(crate::specs::Processes::payload_then))]
+pub(crate) fn payload_then(text: &[u8], c: Cursor, head: Payload) -> Result<(u16, Cursor), Refusal>
     requires { length text.now ≤ text_limit }
     ensures { Stepped text.now c 3 0 0 (payload_then text.now c head) result }
 {
@@ -68,7 +67,8 @@ pub(crate) fn payload_then(text: &[u8], c: Cursor, head: Payload) -> Taken
 }
 
 // A label of a branch list in which n came before, and =>.
-pub(crate) fn label_then(text: &[u8], c: Cursor, n: usize) -> Taken
+#[tactic(auto, unfolding(crate::specs::Processes::label_then))]
+pub(crate) fn label_then(text: &[u8], c: Cursor, n: usize) -> Result<(u16, Cursor), Refusal>
     requires { length text.now ≤ text_limit }
     ensures { Stepped text.now c 4 0 0 (label_then text.now n c) result }
 {
@@ -76,7 +76,8 @@ pub(crate) fn label_then(text: &[u8], c: Cursor, n: usize) -> Taken
 }
 
 // The name that begins a spawn, and its colon.
-pub(crate) fn name_colon(text: &[u8], c: Cursor) -> Taken
+#[tactic(auto, unfolding(crate::specs::Processes::name_colon))]
+pub(crate) fn name_colon(text: &[u8], c: Cursor) -> Result<(u16, Cursor), Refusal>
     requires { length text.now ≤ text_limit }
     ensures { Stepped text.now c 2 0 1 (name_colon text.now c) result }
 {
@@ -84,6 +85,7 @@ pub(crate) fn name_colon(text: &[u8], c: Cursor) -> Taken
 }
 
 // The node of a send or a recv, by the first of its kinds: of (), of a channel, of a label.
+#[tactic(auto, unfolding(crate::specs::Processes::payload_node))]
 pub(crate) fn payload_node(unit: usize, at: u16, i: u16, j: u16, head: Payload) -> TermNode
     requires { (unit + 2 < term_kind_radix) × (at < text_limit) × (i < text_limit) × (j < text_limit) }
     ensures value { result ≡ payload_node unit head at i j }

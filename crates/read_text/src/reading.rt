@@ -6,30 +6,20 @@ ghost use Rattle.read_text.specs.Reading.{Filled, TextRead};
 
 use crate::scripts::read_script;
 use notation::reading::{Cursor, Tally};
+use notation::refusal::Refusal;
 use notation::script::Script;
-use read_types::steps::Out;
 use read_types::store::put_word;
-
-// A text that was read, or its refusal's number and offset.
-#[derive(Clone, Copy)]
-pub enum Reading {
-    Read(Script),
-    Refused(u32, usize),
-}
 
 // All words are 0.
 pub fn zero(part: &mut [u32])
     requires { length part.old ≡ scratch_words }
     ensures { part.new ≡ zeros }
 {
-    let mut k: usize = 0;
-    while k < Script::SCRATCH_WORDS {
-        part[k] = 0;
-        k += 1;
-    }
+    part.fill(0);
 }
 
 // The first eight words: how many entries each table has.
+#[tactic(auto, unfolding(notation::specs::Tables::write_counts))]
 fn write_counts(part: &mut [u32], k: Tally)
     requires part_len { length part.old ≡ scratch_words }
     requires within { Within k }
@@ -46,13 +36,16 @@ fn write_counts(part: &mut [u32], k: Tally)
 }
 
 // Reads a text into the words of its tables.
-fn fill(text: &[u8], part: &mut [u32]) -> Reading
+fn fill(text: &[u8], part: &mut [u32]) -> Result<Script, Refusal>
     requires { length part.old ≡ scratch_words }
     ensures { Filled text.now result part.new }
 {
     zero(part);
     if text.len() > Script::TEXT {
-        return Reading::Refused(2, Script::TEXT);
+        return Err(Refusal {
+            number: Refusal::TEXT_LONG,
+            at: Script::TEXT,
+        });
     }
     let c = Cursor {
         at: 0,
@@ -71,29 +64,31 @@ fn fill(text: &[u8], part: &mut [u32]) -> Reading
         branches: 0,
         last: 0,
     };
-    let out = read_script(text, part, c, k);
-    match out {
-        Out::Got(_, l) => {
+    match read_script(text, part, c, k) {
+        Ok((_, l)) => {
             write_counts(part, l);
-            Reading::Read(Script {
+            Ok(Script {
                 types: l.types,
                 processes: l.processes,
                 execs: l.execs,
             })
         }
-        Out::Not(n, i) => {
+        Err(e) => {
             zero(part);
-            Reading::Refused(n, i as usize)
+            Err(e)
         }
     }
 }
 
 // Refusals 1 to 5 of a text, or its tables in the first words of scratch.
-pub fn read(text: &[u8], scratch: &mut [u32]) -> Reading
+pub fn read(text: &[u8], scratch: &mut [u32]) -> Result<Script, Refusal>
     ensures { TextRead text.now scratch.old result scratch.new }
 {
     if scratch.len() < Script::SCRATCH_WORDS {
-        return Reading::Refused(1, 0);
+        return Err(Refusal {
+            number: Refusal::SCRATCH_SHORT,
+            at: 0,
+        });
     }
     fill(text, &mut scratch[0..Script::SCRATCH_WORDS])
 }

@@ -6,13 +6,15 @@ ghost use Rattle.read_types.specs.Filling.{Stepped, Room};
 ghost use Rattle.read_text.specs.Scripts.{entry_name, close_by, entries_or_none, EntriesRead};
 
 use crate::store::put_entry;
-use notation::reading::{Cursor, Taken, Tally};
+use notation::reading::{Cursor, Tally};
+use notation::refusal::Refusal;
 use notation::token::Token;
-use read_types::steps::{Out, expect, kind_at, opening, refusal, then_expect};
+use read_types::steps::{expect, kind_at, opening, then_expect};
 use read_types::types::read_type;
 
 // The name of an entry, and its colon.
-fn entry_name(text: &[u8], c: Cursor) -> Taken
+#[tactic(auto, unfolding(crate::specs::Scripts::entry_name))]
+fn entry_name(text: &[u8], c: Cursor) -> Result<(u16, Cursor), Refusal>
     requires { length text.now ≤ text_limit }
     ensures { Stepped text.now c 2 0 0 (entry_name text.now c) result }
 {
@@ -20,40 +22,39 @@ fn entry_name(text: &[u8], c: Cursor) -> Taken
 }
 
 // The bracket that closes a list; nothing is appended.
-fn close_list(text: &[u8], scratch: &mut [u32], c: Cursor, k: Tally, close: usize) -> Out
+fn close_list(
+    text: &[u8],
+    scratch: &mut [u32],
+    c: Cursor,
+    k: Tally,
+    close: usize,
+) -> Result<(Cursor, Tally), Refusal>
     requires { Room text.now scratch.old c k × (close ≤ 31) }
     ensures { EntriesRead (λ m. close_by text.now close c) text.now scratch.old c k result scratch.new }
 {
-    let closed = expect(text, c, close);
-    let Taken::At(_, d) = closed else {
-        return refusal(closed);
-    };
-    Out::Got(d, k)
+    let (_, d) = expect(text, c, close)?;
+    Ok((d, k))
 }
 
 // x : A, .. up to the bracket that closes.
-fn read_entries(text: &[u8], scratch: &mut [u32], c: Cursor, k: Tally, close: usize) -> Out
+fn read_entries(
+    text: &[u8],
+    scratch: &mut [u32],
+    c: Cursor,
+    k: Tally,
+    close: usize,
+) -> Result<(Cursor, Tally), Refusal>
     requires { Room text.now scratch.old c k × (close ≤ 31) }
     ensures { EntriesRead (λ m. read_entries m text.now close c) text.now scratch.old c k result scratch.new }
 {
     let mut b = c;
     let mut j = k;
     loop {
-        let named = entry_name(text, b);
-        let Taken::At(i, d) = named else {
-            return refusal(named);
-        };
-        let typed = read_type(text, scratch, d, j);
-        let Out::Got(e, l) = typed else {
-            return typed;
-        };
+        let (i, d) = entry_name(text, b)?;
+        let (e, l) = read_type(text, scratch, d, j)?;
         let m = put_entry(scratch, l, i, l.last);
-        let next = e.at;
-        if kind_at(text, next) == Token::COMMA {
-            let comma = expect(text, e, Token::COMMA);
-            let Taken::At(_, f) = comma else {
-                return refusal(comma);
-            };
+        if kind_at(text, e.at) == Token::COMMA {
+            let (_, f) = expect(text, e, Token::COMMA)?;
             b = f;
             j = m;
         } else {
@@ -63,12 +64,17 @@ fn read_entries(text: &[u8], scratch: &mut [u32], c: Cursor, k: Tally, close: us
 }
 
 // What stands in a list's brackets, and the one that closes it.
-fn entries_or_none(text: &[u8], scratch: &mut [u32], c: Cursor, k: Tally, close: usize) -> Out
+fn entries_or_none(
+    text: &[u8],
+    scratch: &mut [u32],
+    c: Cursor,
+    k: Tally,
+    close: usize,
+) -> Result<(Cursor, Tally), Refusal>
     requires { Room text.now scratch.old c k × (close ≤ 31) }
     ensures { EntriesRead (λ m. entries_or_none m text.now close c) text.now scratch.old c k result scratch.new }
 {
-    let at = c.at;
-    if kind_at(text, at) == Token::NAME {
+    if kind_at(text, c.at) == Token::NAME {
         return read_entries(text, scratch, c, k, close);
     }
     close_list(text, scratch, c, k, close)
@@ -82,25 +88,17 @@ pub(crate) fn entry_list(
     k: Tally,
     opens: usize,
     closes: usize,
-) -> Out
+) -> Result<(Cursor, Tally), Refusal>
     requires { Room text.now scratch.old c k × (opens ≤ 31) × (closes ≤ 31) }
     ensures { EntriesRead (λ m. entry_list m text.now opens closes c) text.now scratch.old c k result scratch.new }
 {
-    let opened = opening(text, c, opens);
-    let Taken::At(_, d) = opened else {
-        return refusal(opened);
-    };
-    let inner = entries_or_none(text, scratch, d, k, closes);
-    let Out::Got(e, l) = inner else {
-        return inner;
-    };
-    Out::Got(
+    let (_, d) = opening(text, c, opens)?;
+    let (e, l) = entries_or_none(text, scratch, d, k, closes)?;
+    Ok((
         Cursor {
-            at: e.at,
-            types: e.types,
-            terms: e.terms,
             depth: c.depth,
+            ..e
         },
         l,
-    )
+    ))
 }

@@ -11,23 +11,23 @@ use crate::payloads::{payload_at, payload_node, payload_token};
 use crate::store::{put_term, term_node};
 use crate::turns::{Turn, follow, put_before};
 use notation::kinds;
-use notation::reading::{Cursor, Taken, Tally};
+use notation::reading::{Cursor, Tally};
+use notation::refusal::Refusal;
 use notation::token::{Payload, Token};
-use read_types::steps::{Out, expect, process_term, refusal};
+use read_types::steps::{expect, process_term};
 
 // send c (), send c a, send c 'l
-pub(crate) fn read_send(text: &[u8], scratch: &mut [u32], c: Cursor, k: Tally) -> Turn
+pub(crate) fn read_send(
+    text: &[u8],
+    scratch: &mut [u32],
+    c: Cursor,
+    k: Tally,
+) -> Result<Turn, Refusal>
     requires { Room text.now scratch.old c k }
     ensures { TermTurned Send text.now scratch.old c k result scratch.new }
 {
-    let term = process_term(text, c, Token::SEND);
-    let Taken::At(at, d) = term else {
-        return Turn::Done(refusal(term));
-    };
-    let named = expect(text, d, Token::NAME);
-    let Taken::At(i, e) = named else {
-        return Turn::Done(refusal(named));
-    };
+    let (at, d) = process_term(text, c, Token::SEND)?;
+    let (i, e) = expect(text, d, Token::NAME)?;
     let next = e.at;
     read_sent(text, scratch, e, k, at, i, payload_at(text, next))
 }
@@ -41,17 +41,14 @@ fn read_sent(
     at: u16,
     i: u16,
     head: Payload,
-) -> Turn
+) -> Result<Turn, Refusal>
     requires room { Room text.now scratch.old c (more_terms k) }
     requires at_lt_text_limit { (at < text_limit) × (i < text_limit) }
     ensures { SentTurned at i head text.now scratch.old c k result scratch.new }
 {
-    let sent = payload_token(text, c, head);
-    let Taken::At(j, d) = sent else {
-        return Turn::Done(refusal(sent));
-    };
+    let (j, d) = payload_token(text, c, head)?;
     let mut l = k;
-    l.terms = k.terms + 1;
+    l.terms += 1;
     follow(
         text,
         scratch,
@@ -63,88 +60,78 @@ fn read_sent(
 }
 
 // cancel c
-pub(crate) fn read_cancel(text: &[u8], scratch: &mut [u32], c: Cursor, k: Tally) -> Turn
+pub(crate) fn read_cancel(
+    text: &[u8],
+    scratch: &mut [u32],
+    c: Cursor,
+    k: Tally,
+) -> Result<Turn, Refusal>
     requires { Room text.now scratch.old c k }
     ensures { TermTurned Cancel text.now scratch.old c k result scratch.new }
 {
-    let term = process_term(text, c, Token::CANCEL);
-    let Taken::At(at, d) = term else {
-        return Turn::Done(refusal(term));
-    };
-    let named = expect(text, d, Token::NAME);
-    let Taken::At(i, e) = named else {
-        return Turn::Done(refusal(named));
-    };
+    let (at, d) = process_term(text, c, Token::CANCEL)?;
+    let (i, e) = expect(text, d, Token::NAME)?;
     let mut l = k;
-    l.terms = k.terms + 1;
+    l.terms += 1;
     let n = term_node(kinds::CANCEL, at, i, 0);
     follow(text, scratch, e, l, k.terms, n)
 }
 
 // raise P
-pub(crate) fn read_raise(text: &[u8], scratch: &mut [u32], c: Cursor, k: Tally) -> Turn
+pub(crate) fn read_raise(
+    text: &[u8],
+    scratch: &mut [u32],
+    c: Cursor,
+    k: Tally,
+) -> Result<Turn, Refusal>
     requires { Room text.now scratch.old c k }
     ensures { TermTurned Raise text.now scratch.old c k result scratch.new }
 {
-    let term = process_term(text, c, Token::RAISE);
-    let Taken::At(at, d) = term else {
-        return Turn::Done(refusal(term));
-    };
+    let (at, d) = process_term(text, c, Token::RAISE)?;
     let mut l = k;
-    l.terms = k.terms + 1;
+    l.terms += 1;
     let n = term_node(kinds::RAISE, at, 0, 0);
     put_before(text, scratch, d.at, l.terms, k.terms, n);
-    Turn::On(d, l)
+    Ok(Turn::On(d, l))
 }
 
 // fwd x c
-pub(crate) fn read_fwd(text: &[u8], scratch: &mut [u32], c: Cursor, k: Tally) -> Out
+pub(crate) fn read_fwd(
+    text: &[u8],
+    scratch: &mut [u32],
+    c: Cursor,
+    k: Tally,
+) -> Result<(Cursor, Tally), Refusal>
     requires { Room text.now scratch.old c k }
     ensures { TermRead Fwd text.now scratch.old c k result scratch.new }
 {
-    let term = process_term(text, c, Token::FWD);
-    let Taken::At(at, d) = term else {
-        return refusal(term);
-    };
-    let provided = expect(text, d, Token::NAME);
-    let Taken::At(i, e) = provided else {
-        return refusal(provided);
-    };
-    let used = expect(text, e, Token::NAME);
-    let Taken::At(j, f) = used else {
-        return refusal(used);
-    };
+    let (at, d) = process_term(text, c, Token::FWD)?;
+    let (i, e) = expect(text, d, Token::NAME)?;
+    let (j, f) = expect(text, e, Token::NAME)?;
     let n = term_node(kinds::FWD, at, i, j);
     put_term(scratch, k.terms, n);
     let mut l = k;
-    l.terms = k.terms + 1;
-    Out::Got(f, l)
+    l.terms += 1;
+    Ok((f, l))
 }
 
 // call p (x, ..) [y, ..]
-pub(crate) fn read_call(text: &[u8], scratch: &mut [u32], c: Cursor, k: Tally) -> Out
+pub(crate) fn read_call(
+    text: &[u8],
+    scratch: &mut [u32],
+    c: Cursor,
+    k: Tally,
+) -> Result<(Cursor, Tally), Refusal>
     requires { Room text.now scratch.old c k }
     ensures { TermRead Call text.now scratch.old c k result scratch.new }
 {
-    let term = process_term(text, c, Token::CALL);
-    let Taken::At(at, d) = term else {
-        return refusal(term);
-    };
-    let named = expect(text, d, Token::NAME);
-    let Taken::At(i, e) = named else {
-        return refusal(named);
-    };
-    let provided = name_list(text, e, Token::ROUND_OPEN, Token::ROUND_CLOSE);
-    let Taken::At(bracket, f) = provided else {
-        return refusal(provided);
-    };
-    let used = name_list(text, f, Token::SQUARE_OPEN, Token::SQUARE_CLOSE);
-    let Taken::At(_, g) = used else {
-        return refusal(used);
-    };
+    let (at, d) = process_term(text, c, Token::CALL)?;
+    let (i, e) = expect(text, d, Token::NAME)?;
+    let (bracket, f) = name_list(text, e, Token::ROUND_OPEN, Token::ROUND_CLOSE)?;
+    let (_, g) = name_list(text, f, Token::SQUARE_OPEN, Token::SQUARE_CLOSE)?;
     let n = term_node(kinds::CALL, at, i, bracket);
     put_term(scratch, k.terms, n);
     let mut l = k;
-    l.terms = k.terms + 1;
-    Out::Got(g, l)
+    l.terms += 1;
+    Ok((g, l))
 }

@@ -4,43 +4,34 @@ ghost use Rattle.notation.specs.Limits.{process_term_limit, text_limit};
 ghost use Rattle.notation.specs.Token.{token_at};
 ghost use Rattle.notation.specs.Tables.{Area, put_term};
 ghost use Rattle.read_types.specs.Filling.{Room, FitsTerm};
-ghost use Rattle.read_text.specs.Turns.{peek, pointing, finished_out, RestTurned};
+ghost use Rattle.read_text.specs.Turns.{peek, pointing, RestTurned};
 
 use crate::store::put_term;
-use notation::reading::{Cursor, Taken, Tally, TermNode};
+use notation::reading::{Cursor, Tally, TermNode};
+use notation::refusal::Refusal;
 use notation::script::Script;
 use notation::token::{TermHead, Token, next_token};
-use read_types::steps::{Out, expect, refusal, term_head};
+use read_types::steps::{expect, term_head};
 
-// After one term: a process follows here, or the answer is there.
+// After one term: a process follows here, or the whole process was read.
 #[derive(Clone, Copy)]
 pub enum Turn {
     On(Cursor, Tally),
-    Done(Out),
-}
-
-// The answer of a process that is read; a turn that goes on is never handed here.
-pub(crate) fn finished(t: Turn) -> Out
-    ensures { result ≡ finished_out t }
-{
-    match t {
-        Turn::On(_, _) => Out::Not(0, 0),
-        Turn::Done(r) => r,
-    }
+    Done(Cursor, Tally),
 }
 
 // The pointer to the process that begins at `at`: the next node's number n, or the limit and the offset of an empty one.
+#[tactic(auto, unfolding(crate::specs::Turns::peek))]
 pub(crate) fn pointer(text: &[u8], at: u16, n: usize) -> usize
     requires { (length text.now ≤ text_limit) × (n ≤ process_term_limit) }
     ensures value { result ≡ peek text.now at n }
     ensures upper_bound { result ≤ process_term_limit + text_limit }
 {
     let t = next_token(text, at);
-    let head = term_head(t.kind);
-    if let TermHead::Empty = head {
-        return Script::PROCESS_TERMS + t.start as usize;
+    match term_head(t.kind) {
+        TermHead::Empty => Script::PROCESS_TERMS + t.start as usize,
+        _ => n,
     }
-    n
 }
 
 // The pointer to the process in the bracket that opens at `at`.
@@ -59,9 +50,7 @@ fn put_pointing(scratch: &mut [u32], i: usize, n: TermNode, third: usize)
     requires fits_term { FitsTerm n }
     ensures { scratch.new ≡ put_term scratch.old i (pointing n third) }
 {
-    let mut m = n;
-    m.third = third;
-    put_term(scratch, i, m);
+    put_term(scratch, i, TermNode { third, ..n });
 }
 
 // The node n of the term i, which the process at `at` follows; `next` is the number of its node.
@@ -89,21 +78,17 @@ pub(crate) fn follow(
     k: Tally,
     i: usize,
     n: TermNode,
-) -> Turn
+) -> Result<Turn, Refusal>
     requires room { Room text.now scratch.old c k × (i < process_term_limit) }
     requires fits_term { FitsTerm n }
     ensures { RestTurned i n text.now scratch.old c k result scratch.new }
 {
-    let at = c.at;
-    let t = next_token(text, at);
+    let t = next_token(text, c.at);
     if t.kind == Token::SEMICOLON {
-        let mark = expect(text, c, Token::SEMICOLON);
-        let Taken::At(_, d) = mark else {
-            return Turn::Done(refusal(mark));
-        };
+        let (_, d) = expect(text, c, Token::SEMICOLON)?;
         put_before(text, scratch, d.at, k.terms, i, n);
-        return Turn::On(d, k);
+        return Ok(Turn::On(d, k));
     }
     put_pointing(scratch, i, n, Script::PROCESS_TERMS + t.start as usize);
-    Turn::Done(Out::Got(c, k))
+    Ok(Turn::Done(c, k))
 }

@@ -6,22 +6,20 @@ use Prim.Native.Nat.{ℕ, suc, ◌+◌, ◌*◌, ◌<◌, ◌≤◌}
 use native.Mathlib.Omega.{arith}
 use lib.Dec.{eqb}
 use borrow.Author.Tests.{eqb-true}
+use Rattle.std.specs.Prelude.{Ok, Err}
 use Rattle.notation.specs.Fine.{FineType}
 use Rattle.notation.specs.Limits.{type_term_limit}
 use Rattle.notation.specs.Token.{kind_at, k_star, k_at, k_lolli, k_end}
 use Rattle.notation.specs.Onward.{width}
 use Rattle.notation.specs.Tree.{Located, Ty, tensor, par, lolli}
-use Rattle.notation.specs.Reader.{Result, got, on_token, part, lastly, choose, type_term}
+use Rattle.notation.specs.Reader.{Result, Taken, got, on_token, part, lastly, choose, type_term}
 use Rattle.notation.specs.Types.{is_infix, infix_of, right_by, type_by, read_type, read_atom}
 use Rattle.notation.specs.Tables.{more_nodes, lasting, type_node, put_node, put_infix, after_infix, after_type, write_type}
+use Rattle.notation.specs.declared.refusal.Refusal.{Refusal}
 use Rattle.notation.specs.declared.reading.Cursor.{Cursor}
 use Rattle.notation.specs.declared.reading.Tally.{Tally}
-use Rattle.notation.specs.declared.reading.Taken.{Taken}
-use Rattle.notation.specs.declared.reading.Taken.TheVariants.{At, Refused}
-use Rattle.read_types.specs.declared.steps.Out.{Out}
-use Rattle.read_types.specs.declared.steps.Out.TheVariants.{Got, Not}
-use Rattle.read_types.specs.Filling.{Kept, Stepped, as_out, Room, Form, Made, Meets, AheadType, type_form, infix_kind, root_before, Waits, put_mark, MarkPut, whole_root, unread, TypeRead, AtomRead}
-use Rattle.read_types.proofs.Filled.{same, ◌upon◌, node_kept, took, refused_out, made_got, made_same, made_lastly, gone_on, stopped, meets_no, at_more, more_no, more_got}
+use Rattle.read_types.specs.Filling.{Out, Kept, Stepped, Room, Form, Made, Meets, AheadType, type_form, infix_kind, root_before, Waits, put_mark, MarkPut, whole_root, unread, TypeRead, AtomRead}
+use Rattle.read_types.proofs.Filled.{same, ◌upon◌, node_kept, took, made_got, made_same, made_lastly, gone_on, stopped, meets_no, at_more, more_no, more_got}
 use Rattle.read_types.proofs.Taking.{width_pos}
 use Rattle.read_types.proofs.Late.{type_put}
 
@@ -133,7 +131,7 @@ RightRead root kind s w c k = Meets (right_form root kind) s w c k (3 * unread s
 
 -- the answer from an atom on that a token of this kind follows
 pub record RestRead (root kind : ℕ) (s w : List ℕ) (c : Cursor) (k : Tally) (r : Out) (v : List ℕ) : Type 0 where
-  pub none : is_infix kind ≡ false → (r ≡ Got c (lasting root k)) × (v ≡ w)
+  pub none : is_infix kind ≡ false → (r ≡ Ok (c, lasting root k)) × (v ≡ w)
   pub right : is_infix kind ≡ true → RightRead root kind s w c k r v
   pub kept : Kept w v
 
@@ -154,8 +152,8 @@ right_rest : (m : ℕ) (s : List ℕ) (kind : ℕ) (c : Cursor)
 right_rest m s kind c = go (type_term s kind c)
   where
     go : (x : Taken) → on_token x (λ _ d. read_type (suc m) s d) ≡ part (on_token x (λ _ d. read_atom m s d)) (rest_by m s)
-    go (At i d) = type_rest m s d
-    go (Refused n i) = refl
+    go (Ok (i, d)) = type_rest m s d
+    go (Err y) = refl
 
 -- a type that is written by these
 abbrev form_of : (Ty Located → Tally → Tally) → (Ty Located → Tally → List ℕ → List ℕ) → (List ℕ → Cursor → Tally → Cursor → Tally → Type 0) → Form (Ty Located)
@@ -165,7 +163,7 @@ form_of after write Ahead = record { after = after; write = write; Fine = FineTy
 module _ (s w v v₂ : List ℕ) (c d : Cursor) (k l : Tally) (root kind : ℕ) {b bound : ℕ} (f g : ℕ → Result (Ty Located)) {q : Out}
     (after after₂ : Ty Located → Tally → Tally) (write write₂ : Ty Located → Tally → List ℕ → List ℕ)
     (Ahead Ahead₂ : List ℕ → Cursor → Tally → Cursor → Tally → Type 0)
-    (a : Meets (form_of after write Ahead) s w c k b f q v) (e : q ≡ Got d l)
+    (a : Meets (form_of after write Ahead) s w c k b f q v) (e : q ≡ Ok (d, l))
     (next : kind ≡ kind_at s d.at) (is : (m : ℕ) → g (suc m) ≡ part (f m) (rest_by m s))
     (more : b < bound) (less : 3 * unread s d + 1 < bound) (stays : Kept w v₂)
     (goes : (x : Cursor) (j : Tally) → (right_form root kind).Ahead s d l x j → Ahead₂ s c k x j) (ends : is_infix kind ≡ false → Ahead₂ s c k d (lasting root l))
@@ -190,7 +188,7 @@ module _ (s w v v₂ : List ℕ) (c d : Cursor) (k l : Tally) (root kind : ℕ) 
           rw ((h.none n).0, (h.none n).1)
           (more_got whole s w c k g (ends n) stays
           (λ m lo. gone_on (f m) (a.is m (omega arith)) e λ A y al av fi.
-          made_got A (rest_none n m A y) (ap (Got d) (one n A al av).0) (one n A al av).1 fi))
+          made_got A (rest_none n m A y) (ap (λ x. Ok (d, x)) (one n A al av).0) (one n A al av).1 fi))
       go true n = let t = h.right n in record {
         is = at_more (λ m. Made whole w k (g m) r u) (λ m lo. gone_on (f m) (a.is m (omega arith)) e λ A y al av fi.
             rw (rest_right n m A y)
@@ -202,10 +200,10 @@ module _ (s w v v₂ : List ℕ) (c d : Cursor) (k l : Tally) (root kind : ℕ) 
 
 -- ── a type: its first atom, and the rest
 module _ {s w v : List ℕ} {c : Cursor} {k : Tally} (room : Room s w c k) {q : Out} (a : AtomRead s w c k q v) where
-  pub type_no : {n i : ℕ} → q ≡ Not n i → TypeRead s w c k q v
-  type_no g = more_no type_form s w c k (λ m. read_type m s c) g a.kept (λ m lo. type_rest m s c ∙ rw (stopped (read_atom m s c) (a.is m (omega arith)) g))
+  pub type_no : {r : Out} {y : Refusal} → q ≡ Err y → r ≡ Err y → TypeRead s w c k r v
+  type_no g h = more_no type_form s w c k (λ m. read_type m s c) h a.kept (λ m lo. type_rest m s c ∙ rw (stopped (read_atom m s c) (a.is m (omega arith)) g))
 
-  pub type_whole : {d : Cursor} {l : Tally} → q ≡ Got d l → {root kind : ℕ} → kind ≡ kind_at s d.at → root ≡ root_before kind l
+  pub type_whole : {d : Cursor} {l : Tally} → q ≡ Ok (d, l) → {root kind : ℕ} → kind ≡ kind_at s d.at → root ≡ root_before kind l
       → {r : Out} {u : List ℕ} → RestRead root kind s v d l r u → TypeRead s w c k r u
   type_whole {d} {l} e {root} {kind} next z =
       let o = a.on d l e in
@@ -235,10 +233,10 @@ OperandRead kind s w c k = Meets operand_form s w c k (3 * unread s c) (λ m. ri
 
 module _ (s w : List ℕ) (c : Cursor) (k : Tally) (room : Room s w c k)
     (kind : ℕ) {q : Taken} (u : Stepped s c (width kind) 1 0 (type_term s kind c) q) (wide : 1 ≤ width kind) where
-  operand_no : {r : Out} {n i : ℕ} → q ≡ Refused n i → r ≡ as_out q → OperandRead kind s w c k r w
-  operand_no g h = meets_no s w c k (refused_out g h) same (λ m _. rw (took u g))
+  operand_no : {r : Out} {y : Refusal} → q ≡ Err y → r ≡ Err y → OperandRead kind s w c k r w
+  operand_no g h = meets_no s w c k h same (λ m _. rw (took u g))
 
-  operand_atom : {i : ℕ} {d : Cursor} → q ≡ At i d → {p : Out} {v : List ℕ} → AtomRead s w d (more_nodes k) p v → OperandRead kind s w c k p v
+  operand_atom : {i : ℕ} {d : Cursor} → q ≡ Ok (i, d) → {p : Out} {v : List ℕ} → AtomRead s w d (more_nodes k) p v → OperandRead kind s w c k p v
   operand_atom {i} {d} e a =
       let o = u.on i d e in
       record {
@@ -250,15 +248,15 @@ module _ (s w : List ℕ) (c : Cursor) (k : Tally) (room : Room s w c k)
 -- ── a turn: an infix mark and the atom to its right, whose node is written late
 module _ {s w v : List ℕ} {c : Cursor} {k : Tally} (room : Room s w c k)
     (root kind : ℕ) (mark : is_infix kind ≡ true) {q : Out} (a : OperandRead kind s w c k q v) where
-  turn_no : {n i : ℕ} → q ≡ Not n i → RestRead root kind s w c k q v
-  turn_no g = record {
+  turn_no : {r : Out} {y : Refusal} → q ≡ Err y → r ≡ Err y → RestRead root kind s w c k r v
+  turn_no g h = record {
     none = λ n. never_both_lem mark n;
-    right = λ _. more_no (right_form root kind) s w c k (λ m. right_by (λ d. read_type m s d) s kind c) g a.kept
+    right = λ _. more_no (right_form root kind) s w c k (λ m. right_by (λ d. read_type m s d) s kind c) h a.kept
         (λ m lo. right_rest m s kind c ∙ rw (stopped (right_by (λ d. read_atom m s d) s kind c) (a.is m (omega arith)) g));
     kept = a.kept;
   }
 
-  module _ {d : Cursor} {l : Tally} (e : q ≡ Got d l) (next : ℕ) (follows : next ≡ kind_at s d.at) where
+  module _ {d : Cursor} {l : Tally} (e : q ≡ Ok (d, l)) (next : ℕ) (follows : next ≡ kind_at s d.at) where
     -- the words of T after the mark's node, to the right of which is the root x
     abbrev behind : Ty Located → ℕ → List ℕ
     behind T x = write_type T (more_nodes k) (put_node w k.nodes (type_node (infix_kind kind) k.last x))
@@ -302,8 +300,8 @@ pub record Chain (s w₀ : List ℕ) (c₀ : Cursor) (k₀ : Tally) (w : List �
   pub waits : Waits mark k.last left
   pub later : c₀.at ≤ c.at
   pub kept : Kept w₀ w
-  pub no : {q : Out} {v : List ℕ} {n i : ℕ} → AtomRead s w c k q v → q ≡ Not n i → TypeRead s w₀ c₀ k₀ q v
-  pub whole : {q : Out} {v : List ℕ} {d : Cursor} {l : Tally} → AtomRead s w c k q v → q ≡ Got d l → (next : ℕ) → next ≡ kind_at s d.at
+  pub no : {q r : Out} {v : List ℕ} {y : Refusal} → AtomRead s w c k q v → q ≡ Err y → r ≡ Err y → TypeRead s w₀ c₀ k₀ r v
+  pub whole : {q : Out} {v : List ℕ} {d : Cursor} {l : Tally} → AtomRead s w c k q v → q ≡ Ok (d, l) → (next : ℕ) → next ≡ kind_at s d.at
       → (r : Out) (u : List ℕ) → RestRead (whole_root mark root (root_before next l)) next s (put_mark mark k.last left (root_before next l) v) d l r u
       → TypeRead s w₀ c₀ k₀ r u
 
@@ -314,13 +312,13 @@ chain_start room = record {
   waits = record { few = λ e. never_both_lem e refl };
   later = omega arith;
   kept = same;
-  no = λ a g. type_no room a g;
+  no = λ a g h. type_no room a g h;
   whole = λ a e next n r u h. type_whole room a e n refl h;
 }
 
 -- a turn: the atom, the token after it, the node of the mark that waited, the whole type's root
 module _ {s w₀ w : List ℕ} {c₀ c : Cursor} {k₀ k : Tally} {mark left root : ℕ} (h : Chain s w₀ c₀ k₀ w c k mark left root)
-    {v : List ℕ} {q : Out} (a : AtomRead s w c k q v) {d : Cursor} {l : Tally} (e : q ≡ Got d l) {next right root₂ : ℕ} {v₂ : List ℕ}
+    {v : List ℕ} {q : Out} (a : AtomRead s w c k q v) {d : Cursor} {l : Tally} (e : q ≡ Ok (d, l)) {next right root₂ : ℕ} {v₂ : List ℕ}
     (n : next ≡ kind_at s d.at) (z : right ≡ root_before next l) (p : MarkPut mark k.last left right v v₂)
     (y : root₂ ≡ whole_root mark root right) where
   rest : (r : Out) (u : List ℕ) → RestRead root₂ next s v₂ d l r u → TypeRead s w₀ c₀ k₀ r u
@@ -329,17 +327,17 @@ module _ {s w₀ w : List ℕ} {c₀ c : Cursor} {k₀ k : Tally} {mark left roo
       (subst (λ g. RestRead g next s (put_mark mark k.last left (root_before next l) v) d l r u) (y ∙ ap (whole_root mark root) z)
       (subst (λ v₃. RestRead root₂ next s v₃ d l r u) (p.words ∙ ap (λ x. put_mark mark k.last left x v) z) x))
 
-  pub chain_end : is_infix next ≡ false → {m : Tally} → m ≡ lasting root₂ l → TypeRead s w₀ c₀ k₀ (Got d m) v₂
-  chain_end f g = rest _ v₂ (record { none = λ _. (ap (Got d) g, refl); right = λ t. never_both_lem t f; kept = same })
+  pub chain_end : is_infix next ≡ false → {m : Tally} → m ≡ lasting root₂ l → TypeRead s w₀ c₀ k₀ (Ok (d, m)) v₂
+  chain_end f g = rest _ v₂ (record { none = λ _. (ap (λ x. Ok (d, x)) g, refl); right = λ t. never_both_lem t f; kept = same })
 
   module _ (marked : is_infix next ≡ true) {t : Taken} (u : Stepped s d (width next) 1 0 (type_term s next d) t) where
     room₂ : Room s v₂ d l
     room₂ = let o = a.on d l e in let x = h.room in omega (arith, p.kept.long, a.kept.long)
 
-    pub chain_no : {r : Out} {m i : ℕ} → t ≡ Refused m i → r ≡ as_out t → TypeRead s w₀ c₀ k₀ r v₂
-    chain_no {r} g f = rest r v₂ (turn_no room₂ root₂ next marked (operand_no s v₂ d l room₂ next u (width_pos next) g f) (refused_out g f))
+    pub chain_no : {r : Out} {y : Refusal} → t ≡ Err y → r ≡ Err y → TypeRead s w₀ c₀ k₀ r v₂
+    chain_no {r} g f = rest r v₂ (turn_no room₂ root₂ next marked (operand_no s v₂ d l room₂ next u (width_pos next) g f) f f)
 
-    pub chain_on : {i : ℕ} {f : Cursor} → t ≡ At i f → Chain s w₀ c₀ k₀ v₂ f (more_nodes l) next l.last root₂
+    pub chain_on : {i : ℕ} {f : Cursor} → t ≡ Ok (i, f) → Chain s w₀ c₀ k₀ v₂ f (more_nodes l) next l.last root₂
     chain_on {i} {f} g =
         let o = a.on d l e in
         let o₂ = u.on i f g in
@@ -351,7 +349,7 @@ module _ {s w₀ w : List ℕ} {c₀ c : Cursor} {k₀ k : Tally} {mark left roo
           waits = record { few = λ _. omega arith };
           later = omega arith;
           kept = p.kept upon a.kept upon h.kept;
-          no = λ a₂ g₂. rest _ _ (turn_no room₂ root₂ next marked (operand_atom s v₂ d l room₂ next u wide g a₂) g₂);
+          no = λ a₂ g₂ f₂. rest _ _ (turn_no room₂ root₂ next marked (operand_atom s v₂ d l room₂ next u wide g a₂) g₂ f₂);
           whole = λ {q = q₂} {v = v₃} {d = d₂} {l = m} a₂ e₂ next₂ n₂ r u₂ x₂.
               rest r u₂ (turn_on room₂ root₂ next marked (operand_atom s v₂ d l room₂ next u wide g a₂) e₂ next₂ n₂
               (mark_put next marked l.nodes l.last (root_before next₂ m) v₃)

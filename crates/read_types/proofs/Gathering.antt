@@ -7,32 +7,30 @@ use native.Mathlib.Omega.{arith}
 use lib.Dec.{eqb, ltb}
 use lib.ListN.{length, set, length-set}
 use borrow.Author.Tests.{ltb-true}
+use Rattle.std.specs.Prelude.{Ok, Err}
 use Rattle.notation.specs.Fine.{FineType, FineAlternatives, SomeAlternative}
 use Rattle.notation.specs.Limits.{label_limit, text_limit}
 use Rattle.notation.specs.Token.{kind_at, k_colon, k_comma, k_label}
 use Rattle.notation.specs.Tree.{Located, Ty, Alternatives, alternative}
-use Rattle.notation.specs.Reader.{Result, got, on_token, part, lastly, expect, limited, then_token, label_in}
+use Rattle.notation.specs.Reader.{Result, Taken, got, on_token, part, lastly, expect, limited, then_token, label_in}
 use Rattle.notation.specs.Types.{more_by, alternatives_by, label_term, read_type, read_alternatives}
 use Rattle.notation.specs.Tables.{alternatives_at, pair_word, put_alternative, after_type, after_alternatives, write_type, write_alternatives}
+use Rattle.notation.specs.declared.refusal.Refusal.{Refusal}
 use Rattle.notation.specs.declared.reading.Cursor.{Cursor}
 use Rattle.notation.specs.declared.reading.Tally.{Tally}
-use Rattle.notation.specs.declared.reading.Taken.{Taken}
-use Rattle.notation.specs.declared.reading.Taken.TheVariants.{At, Refused}
-use Rattle.read_types.specs.declared.steps.Out.{Out}
-use Rattle.read_types.specs.declared.steps.Out.TheVariants.{Got, Not}
-use Rattle.read_types.specs.Filling.{Kept, Stepped, as_out, label_colon, listing, listed, list_put, put_listed, Put, Room, Form, Made, Meets, AheadType, alternatives_form, unread, TypeRead, AlternativesRead}
+use Rattle.read_types.specs.Filling.{Out, Kept, Stepped, label_colon, listing, listed, list_put, put_listed, Put, Room, Form, Made, Meets, AheadType, alternatives_form, unread, TypeRead, AlternativesRead}
 use Rattle.read_types.proofs.Taking.{never}
-use Rattle.read_types.proofs.Filled.{same, ◌upon◌, took, refused_out, made_got, made_same, made_lastly, gone_on, stopped, at_more, more_no, more_got}
+use Rattle.read_types.proofs.Filled.{same, ◌upon◌, took, made_got, made_same, made_lastly, gone_on, stopped, at_more, more_no, more_got}
 use Rattle.read_types.proofs.Listing.{list_none, list_more}
 use Rattle.read_types.proofs.TypePaths.{then_take}
 
 -- a label that was taken is within its list's limit
-within_limit : (b : Bool) (x : Taken) (g : Cursor → Taken) (i : ℕ) (d : Cursor) → then_token (limited x (λ _. b) (λ e. e)) g ≡ At i d → b ≡ true
+within_limit : (b : Bool) (x : Taken) (g : Cursor → Taken) (i : ℕ) (d : Cursor) → then_token (limited x (λ _. b) (λ e. e)) g ≡ Ok (i, d) → b ≡ true
 within_limit true x g i d z = refl
-within_limit false (At j c) g i d z = never z
-within_limit false (Refused m j) g i d z = never z
+within_limit false (Ok (j, c)) g i d z = never z
+within_limit false (Err y) g i d z = never z
 
-label_few : (s : List ℕ) (n : ℕ) (c : Cursor) {q : Taken} {i : ℕ} {d : Cursor} → Stepped s c 3 0 0 (label_colon s n c) q → q ≡ At i d → n < label_limit
+label_few : (s : List ℕ) (n : ℕ) (c : Cursor) {q : Taken} {i : ℕ} {d : Cursor} → Stepped s c 3 0 0 (label_colon s n c) q → q ≡ Ok (i, d) → n < label_limit
 unfolding label_colon label_term
 label_few s n c {i = i} {d} u e = ltb-true n label_limit (within_limit (ltb n label_limit) (expect s k_label c) (expect s k_colon) i d (took u e))
 
@@ -111,18 +109,18 @@ module _ {s w₀ entries w : List ℕ} {c₀ c : Cursor} {k₀ k : Tally} {n : �
   abbrev read : ℕ → Result (Alternatives Located)
   read m = read_alternatives m s n c
 
-  pub label_no : {r : Out} {j i : ℕ} → q ≡ Refused j i → r ≡ as_out q → AlternativesRead s w₀ c₀ k₀ r w
-  label_no {r} g e = h.whole r w (more_no (kept_form entries n) s w c k read (refused_out g e) same (λ m _. alternatives_is m s n c ∙ rw (took u g)))
+  pub label_no : {r : Out} {y : Refusal} → q ≡ Err y → r ≡ Err y → AlternativesRead s w₀ c₀ k₀ r w
+  label_no {r} g e = h.whole r w (more_no (kept_form entries n) s w c k read e same (λ m _. alternatives_is m s n c ∙ rw (took u g)))
 
-  module _ {i : ℕ} {d : Cursor} (e : q ≡ At i d) {p : Out} {v : List ℕ} (t : TypeRead s w d k p v) where
-    pub typed_no : {j x : ℕ} → p ≡ Not j x → AlternativesRead s w₀ c₀ k₀ p v
-    typed_no g =
+  module _ {i : ℕ} {d : Cursor} (e : q ≡ Ok (i, d)) {p : Out} {v : List ℕ} (t : TypeRead s w d k p v) where
+    pub typed_no : {r : Out} {y : Refusal} → p ≡ Err y → r ≡ Err y → AlternativesRead s w₀ c₀ k₀ r v
+    typed_no {r} g r-is =
         let o = u.on i d e in
-        h.whole p v
-        (more_no (kept_form entries n) s w c k read g t.kept
+        h.whole r v
+        (more_no (kept_form entries n) s w c k read r-is t.kept
         (λ m lo. alternatives_is m s n c ∙ rw (took u e, stopped (read_type m s d) (t.is m (omega arith)) g)))
 
-    module _ {f : Cursor} {l : Tally} (g : p ≡ Got f l) where
+    module _ {f : Cursor} {l : Tally} (g : p ≡ Ok (f, l)) where
       -- the label and the type are within their limits, and leave room
       pub read_one : Room s v f l × (n < label_limit) × (n < length entries) × (l.alternatives + n < f.types) × (i < text_limit) × (l.last < l.nodes)
           × (c.at < f.at)
@@ -155,14 +153,14 @@ module _ {s w₀ entries w : List ℕ} {c₀ c : Cursor} {k₀ k : Tally} {n : �
             )
 
         module _ (comma : eqb (kind_at s f.at) k_comma ≡ true) {y : Taken} (z : Stepped s f 1 0 0 (expect s k_comma f) y) where
-          pub comma_no : {r : Out} {j b : ℕ} → y ≡ Refused j b → r ≡ as_out y → AlternativesRead s w₀ c₀ k₀ r v
+          pub comma_no : {r : Out} {z : Refusal} → y ≡ Err z → r ≡ Err z → AlternativesRead s w₀ c₀ k₀ r v
           comma_no {r} g₂ r-is =
               let o = u.on i d e in
               h.whole r v
-              (more_no (kept_form entries n) s w c k read (refused_out g₂ r-is) t.kept
+              (more_no (kept_form entries n) s w c k read r-is t.kept
               (λ m lo. gone_on (read_type m s d) (t.is m (omega arith)) g λ A a _ _ _. next_is m A a ∙ rw (comma, took z g₂)))
 
-          module _ {j : ℕ} {b : Cursor} (g₂ : y ≡ At j b) where
+          module _ {j : ℕ} {b : Cursor} (g₂ : y ≡ Ok (j, b)) where
             comma_whole : (r : Out) (v₂ : List ℕ) → RestListed (set entries n x) (n + 1) s v b l r v₂ → RestListed entries n s w c k r v₂
             comma_whole r v₂ a =
                 let o = u.on i d e in
@@ -194,16 +192,16 @@ module _ {s w₀ entries w : List ℕ} {c₀ c : Cursor} {k₀ k : Tally} {n : �
                 }
 
         pub gathered_end : eqb (kind_at s f.at) k_comma ≡ false → {l₂ : Tally} {v₂ : List ℕ}
-            → Put v (put_listed (set entries n x) (n + 1) l v) (listed (n + 1) l) l₂ v₂ → AlternativesRead s w₀ c₀ k₀ (Got f l₂) v₂
+            → Put v (put_listed (set entries n x) (n + 1) l v) (listed (n + 1) l) l₂ v₂ → AlternativesRead s w₀ c₀ k₀ (Ok (f, l₂)) v₂
         unfolding after_alternatives write_alternatives FineAlternatives
         gathered_end other {v₂ = v₂} p =
             let o = u.on i d e in
             let o₂ = t.on f l g in
             let one = read_one in
             rw p.is
-            (h.whole (Got f (listed (n + 1) l)) v₂
+            (h.whole (Ok (f, listed (n + 1) l)) v₂
             (more_got (kept_form entries n) s w c k read (omega arith) (p.kept upon t.kept)
             (λ m lo. gone_on (read_type m s d) (t.is m (omega arith)) g λ A a al av fi.
             let whole = more_listed A al av fi Alternatives.none (omega arith) in
             made_got (alternative (label_in s i) A Alternatives.none) (next_is m A a ∙ rw other)
-            (ap (Got f) (listing_path l refl (omega arith) ∙ whole.0)) (p.words ∙ whole.1) whole.2)))
+            (ap (λ x. Ok (f, x)) (listing_path l refl (omega arith) ∙ whole.0)) (p.words ∙ whole.1) whole.2)))

@@ -6,14 +6,17 @@ use Prim.Native.Nat.{ℕ, ◌+◌, ◌*◌, ◌≤◌}
 use native.Mathlib.Omega.{arith}
 use lib.Dec.{eqb}
 use borrow.Author.Tests.{eq-eqb, ne_eqb}
+use Rattle.std.specs.Prelude.{Ok, Err}
+use Rattle.std.specs.Result.{IsErrAnd}
+use Rattle.std.proofs.lemmas.Result.{err_from_is_err_and}
 use Rattle.notation.specs.Limits.{type_term_limit, process_term_limit}
 use Rattle.notation.specs.Token.{token_at, k_then, k_label}
 use Rattle.notation.specs.Onward.{width, Onward}
-use Rattle.notation.specs.Reader.{expect, limited, past, fault, then_token, closed, closed_taken}
+use Rattle.notation.specs.Refusals.{OrRefusal, refusal, refuses}
+use Rattle.notation.specs.Reader.{Taken, expect, limited, past, fault, then_token, closed, closed_taken}
 use Rattle.notation.specs.declared.token.Token.{Token}
 use Rattle.notation.specs.declared.reading.Cursor.{Cursor}
-use Rattle.notation.specs.declared.reading.Taken.{Taken}
-use Rattle.notation.specs.declared.reading.Taken.TheVariants.{At, Refused}
+use Rattle.notation.specs.declared.refusal.Refusal.{Refusal}
 use Rattle.read_types.specs.Filling.{Further, Stepped, Behind, Followed}
 
 -- every token has a byte
@@ -25,75 +28,76 @@ width_pos k = go (eqb k k_then || eqb k k_label)
     go false = omega arith
 
 -- a refusal goes on nowhere
-pub never : {P : Type 0} {n j i : ℕ} {d : Cursor} → Refused n j ≡ At i d → P
-never e = absurd (let z : ◌≡◌ {A = ℕ} 0 1 = cc in omega arith)
+pub never : {P : Type 0} {y : Refusal} {i : ℕ} {d : Cursor} → ◌≡◌ {A = Taken} (Err y) (Ok (i, d)) → P
+never e = absurd cc
+
+-- what goes out by `?` is the refusal that came
+pub left : {T : Type 0} {y : Refusal} (r : OrRefusal T) → IsErrAnd r (λ z. z ≡ y) → r ≡ Err y
+left r h = let p = err_from_is_err_and r h in p.1 ∙ ap (λ z. Err z) p.2
 
 module _ {s : List ℕ} {c : Cursor} {n types terms : ℕ} {want : Taken} where
-  pub stepped_no : (m j : ℕ) → Refused m j ≡ want → Stepped s c n types terms want (Refused m j)
-  stepped_no m j e = record { is = e; on = λ i d q. never q }
+  pub stepped_no : (y : Refusal) → Err y ≡ want → Stepped s c n types terms want (Err y)
+  stepped_no y e = record { is = e; on = λ i d q. never q }
 
-  pub stepped_at : (i : ℕ) (d : Cursor) → At i d ≡ want → Further s c n types terms i d → Stepped s c n types terms want (At i d)
-  stepped_at i d e f = record { is = e; on = onto }
-    where
-      onto : (j : ℕ) (b : Cursor) → At i d ≡ At j b → Further s c n types terms j b
-      onto j b q =
-          let p : i ≡ j = cc in
-          let r : d ≡ b = cc in
-          subst (λ (x : ℕ). Further s c n types terms x b) p (subst (λ (x : Cursor). Further s c n types terms i x) r f)
+  pub stepped_at : (i : ℕ) (d : Cursor) → ◌≡◌ {A = Taken} (Ok (i, d)) want → Further s c n types terms i d → Stepped s c n types terms want (Ok (i, d))
+  stepped_at i d e f = record {
+    is = e;
+    on = λ j b q. let p : ◌≡◌ {A = ℕ × Cursor} (i, d) (j, b) = cc in subst (λ (x : ℕ × Cursor). Further s c n types terms x.0 x.1) p f;
+  }
 
 -- the next token is t
 module _ (s : List ℕ) (k : ℕ) (c : Cursor) (t : Token) (e : t ≡ token_at s c.at) (o : Onward s c.at t) where
-  pub expect_at : k ≤ 31 → t.kind ≡ k → Stepped s c (width k) 0 0 (expect s k c) (At t.start (past c t))
+  pub expect_at : k ≤ 31 → t.kind ≡ k → Stepped s c (width k) 0 0 (expect s k c) (Ok (t.start, past c t))
   unfolding expect
   expect_at l q =
       let g = o.goes (omega arith) in
       stepped_at _ _ (rw (← e, eq-eqb _ _ q)) (subst (λ k. c.at + width k ≤ t.end) q g.0, o.ends, g.1, omega arith, omega arith, omega arith, omega arith)
 
-  pub expect_no : ((t.kind ≡ k) → ⊥) → (n : ℕ) → n ≡ fault t → Stepped s c (width k) 0 0 (expect s k c) (Refused n t.start)
+  pub expect_no : ((t.kind ≡ k) → ⊥) → (y : Refusal) → y ≡ refusal (fault t) t.start → Stepped s c (width k) 0 0 (expect s k c) (Err y)
   unfolding expect
-  expect_no d n q = stepped_no _ _ (rw (← e, ne_eqb _ _ d) (ap (λ m. Refused m t.start) q))
+  expect_no d y q = stepped_no y (rw (← e, ne_eqb _ _ d) (ap (λ z. Err z) q))
 
 -- a step with a limit, over the step that it is made of
 module _ {s : List ℕ} {c : Cursor} {n : ℕ} {want r : Taken} (u : Stepped s c n 0 0 want r) (types terms : ℕ) (fits : Cursor → Bool) (more : Cursor → Cursor) where
-  pub limit_no : {m j : ℕ} → r ≡ Refused m j → Stepped s c n types terms (limited want fits more) r
-  limit_no {m} {j} e = rw e (stepped_no m j (rw (← u.is, e)))
+  pub limit_no : {y : Refusal} → r ≡ Err y → Stepped s c n types terms (limited want fits more) r
+  limit_no {y} e = rw e (stepped_no y (rw (← u.is, e)))
 
-  pub limit_passed : {i : ℕ} {d : Cursor} → r ≡ At i d → fits d ≡ false → Stepped s c n types terms (limited want fits more) (Refused 5 i)
-  limit_passed e f = stepped_no _ _ (rw (← u.is, e, f))
+  pub limit_passed : {i : ℕ} {d : Cursor} → r ≡ Ok (i, d) → fits d ≡ false → Stepped s c n types terms (limited want fits more) (refuses 5 i)
+  limit_passed e f = stepped_no _ (rw (← u.is, e, f))
 
-  pub limit_kept : {i : ℕ} {d : Cursor} → r ≡ At i d → fits d ≡ true → Further s c n types terms i (more d) → Stepped s c n types terms (limited want fits more) (At i (more d))
+  pub limit_kept : {i : ℕ} {d : Cursor} → r ≡ Ok (i, d) → fits d ≡ true → Further s c n types terms i (more d) → Stepped s c n types terms (limited want fits more) (Ok (i, more d))
   limit_kept e f o = stepped_at _ _ (rw (← u.is, e, f)) o
 
 -- two tokens in a row
 module _ {s : List ℕ} {c : Cursor} {n types terms : ℕ} {want r : Taken} (u : Stepped s c n types terms want r) (n' types' : ℕ) (f : Cursor → Taken) where
-  pub first_no : {m j : ℕ} → r ≡ Refused m j → Stepped s c n' types' terms (then_token want f) r
-  first_no {m} {j} e = rw e (stepped_no m j (rw (← u.is, e)))
+  pub first_no : {y : Refusal} → r ≡ Err y → Stepped s c n' types' terms (then_token want f) r
+  first_no {y} e = rw e (stepped_no y (rw (← u.is, e)))
 
-  module _ {i : ℕ} {d : Cursor} (e : r ≡ At i d) {k : ℕ} {q : Taken} (v : Stepped s d k 0 0 (f d) q) where
-    pub second_no : {m j : ℕ} → q ≡ Refused m j → Stepped s c n' types' terms (then_token want f) q
-    second_no {m} {j} g = rw g (stepped_no m j (rw (← u.is, e, ← v.is, g)))
+  module _ {i : ℕ} {d : Cursor} (e : r ≡ Ok (i, d)) {k : ℕ} {q : Taken} (v : Stepped s d k 0 0 (f d) q) where
+    pub second_no : {y : Refusal} → q ≡ Err y → Stepped s c n' types' terms (then_token want f) q
+    second_no {y} g = rw g (stepped_no y (rw (← u.is, e, ← v.is, g)))
 
-    pub both_at : {j : ℕ} {b : Cursor} → q ≡ At j b → Further s c n' types' terms i b → Stepped s c n' types' terms (then_token want f) (At i b)
+    pub both_at : {j : ℕ} {b : Cursor} → q ≡ Ok (j, b) → Further s c n' types' terms i b → Stepped s c n' types' terms (then_token want f) (Ok (i, b))
     both_at g o = stepped_at i _ (rw (← u.is, e, ← v.is, g)) o
 
 -- a step, and then a token, whatever the step is of
-module _ {s : List ℕ} {p : Taken} (kind : ℕ) where
-  pub followed_no : {m j : ℕ} → p ≡ Refused m j → Followed s p kind p
+module _ {s : List ℕ} {step : Taken} (kind : ℕ) where
+  pub followed_no : {y : Refusal} → step ≡ Err y → Followed s step kind step
   followed_no e = rw e (record { is = refl; on = λ i d q. never q })
 
-  module _ {i : ℕ} {d : Cursor} (e : p ≡ At i d) {q : Taken} (v : Stepped s d (width kind) 0 0 (expect s kind d) q) where
-    pub followed_then_no : {m j : ℕ} → q ≡ Refused m j → Followed s p kind q
+  module _ {i : ℕ} {d : Cursor} (e : step ≡ Ok (i, d)) {q : Taken} (v : Stepped s d (width kind) 0 0 (expect s kind d) q) where
+    pub followed_then_no : {y : Refusal} → q ≡ Err y → Followed s step kind q
     followed_then_no g = rw g (record { is = rw (e, ← v.is, g); on = λ i d x. never x })
 
-    pub followed_at_lem : {j : ℕ} {b : Cursor} → q ≡ At j b → Followed s p kind (At i b)
-    followed_at_lem {j} {b} g = record { is = rw (e, ← v.is, g); on = onto }
-      where
-        onto : (k : ℕ) (f : Cursor) → At i b ≡ At k f → Behind s p kind k f
-        onto k f x =
-            let same : i ≡ k = cc in
-            let there : b ≡ f = cc in
-            let o = v.on j b g in
-            subst (λ y. Behind s p kind k y) there (d, e ∙ ap (λ n. At n d) same, o.0, o.1, omega arith, omega arith)
+    pub followed_at_lem : {j : ℕ} {b : Cursor} → q ≡ Ok (j, b) → Followed s step kind (Ok (i, b))
+    followed_at_lem {j} {b} g =
+        let o = v.on j b g in
+        record {
+          is = rw (e, ← v.is, g);
+          on = λ k f x.
+              let p : ◌≡◌ {A = ℕ × Cursor} (i, b) (k, f) = cc in
+              subst (λ (y : ℕ × Cursor). Behind s step kind y.0 y.1) p (d, e, o.0, o.1, omega arith, omega arith);
+        }
 
 pub followed : {s : List ℕ} {c : Cursor} {n types terms : ℕ} {want p r : Taken} {kind : ℕ} → Stepped s c n types terms want p → Followed s p kind r
     → (n' : ℕ) → n' ≤ n + width kind → Stepped s c n' types terms (then_token want (expect s kind)) r
@@ -107,10 +111,10 @@ followed {s} {types = types} {terms} {kind = kind} u v n' l = record {
 
 -- as many brackets are open afterwards as before
 module _ {s : List ℕ} {c : Cursor} {n types terms : ℕ} {want r : Taken} (u : Stepped s c n types terms want r) where
-  pub closing_no : {m j : ℕ} → r ≡ Refused m j → Stepped s c n types terms (closed_taken c want) r
-  closing_no {m} {j} e = rw e (stepped_no m j (rw (← u.is, e)))
+  pub closing_no : {y : Refusal} → r ≡ Err y → Stepped s c n types terms (closed_taken c want) r
+  closing_no {y} e = rw e (stepped_no y (rw (← u.is, e)))
 
-  pub closing_at : {i : ℕ} {d : Cursor} → r ≡ At i d → Stepped s c n types terms (closed_taken c want) (At i (closed c d))
+  pub closing_at : {i : ℕ} {d : Cursor} → r ≡ Ok (i, d) → Stepped s c n types terms (closed_taken c want) (Ok (i, closed c d))
   closing_at {i} {d} e = stepped_at i (closed c d) (rw (← u.is, e)) (u.on i d e)
 
   -- a wider step is a narrower one
@@ -118,5 +122,5 @@ module _ {s : List ℕ} {c : Cursor} {n types terms : ℕ} {want r : Taken} (u :
   narrower n' l = record { is = u.is; on = λ i d e. let o = u.on i d e in (omega arith, o.1, o.2, o.3, o.4, o.5, o.6) }
 
 -- a refusal of a step, whatever it would have been
-pub refused_step : {s : List ℕ} {c : Cursor} {n types terms m j : ℕ} {r : Taken} → r ≡ Refused m j → Stepped s c n types terms (Refused m j) r
-refused_step e = rw e (stepped_no _ _ refl)
+pub refused_step : {s : List ℕ} {c : Cursor} {n types terms : ℕ} {y : Refusal} {r : Taken} → r ≡ Err y → Stepped s c n types terms (Err y) r
+refused_step e = rw e (stepped_no _ refl)

@@ -8,25 +8,23 @@ use native.Mathlib.Omega.{arith}
 use native.Mathlib.Decide.{ℕ_discrete}
 use lib.Dec.{eqb}
 use borrow.Author.Tests.{eqb-true, ne_eqb}
+use Rattle.std.specs.Prelude.{Ok, Err}
 use Rattle.notation.specs.Fine.{FineAlternatives, FineType, SomeAlternative}
 use Rattle.notation.specs.Limits.{type_term_limit}
 use Rattle.notation.specs.Token.{kind_at, k_one, k_name, k_round_open, k_round_close, k_brace_open, k_brace_close, k_plus, k_with}
 use Rattle.notation.specs.Tree.{Located, Ty, unit, named, plus, with, Alternatives}
-use Rattle.notation.specs.Reader.{Result, got, on_token, part, expect, misfit, opening, type_term, closed, then_token, onward_from, name_in}
+use Rattle.notation.specs.Reader.{Result, Taken, got, on_token, part, expect, misfit, opening, type_term, closed, then_token, onward_from, name_in}
 use Rattle.notation.specs.Types.{type_head, choice_by, atom_by, read_type, read_atom, read_alternatives}
 use Rattle.notation.specs.Tables.{more_nodes, lasting, type_node, put_node, put_choice, after_type, after_alternatives, write_type, write_alternatives}
+use Rattle.notation.specs.declared.refusal.Refusal.{Refusal}
 use Rattle.notation.specs.declared.reading.Cursor.{Cursor}
 use Rattle.notation.specs.declared.reading.Tally.{Tally}
 use Rattle.notation.specs.declared.reading.TypeNode.{TypeNode}
-use Rattle.notation.specs.declared.reading.Taken.{Taken}
-use Rattle.notation.specs.declared.reading.Taken.TheVariants.{At, Refused}
 use Rattle.notation.specs.declared.token.TypeHead.{TypeHead}
 use Rattle.notation.specs.declared.token.TypeHead.TheVariants.{Plus, With, Other}
-use Rattle.read_types.specs.declared.steps.Out.{Out}
-use Rattle.read_types.specs.declared.steps.Out.TheVariants.{Got, Not}
-use Rattle.read_types.specs.Filling.{Stepped, Closes, not_read, not_closed, read, choice_opening, is_choice, as_out, misfit_out, Room, Meets, type_form, choice_of, unread, TypeRead, AtomRead, AlternativesRead, OneRead, NameRead, RoundRead, ChoiceRead}
+use Rattle.read_types.specs.Filling.{Out, Stepped, Closes, not_read, not_closed, read, choice_opening, is_choice, misfit_refusal, Put, Room, Meets, type_form, choice_of, unread, TypeRead, AtomRead, AlternativesRead, OneRead, NameRead, RoundRead, ChoiceRead}
 use Rattle.read_types.proofs.Late.{alternatives_put}
-use Rattle.read_types.proofs.Filled.{same, ◌upon◌, node_kept, took, refused_out, made_got, gone_on, stopped, meets_no, meets_got, more_no, more_made}
+use Rattle.read_types.proofs.Filled.{same, ◌upon◌, node_kept, took, made_got, gone_on, stopped, meets_no, meets_got, more_no, more_made}
 
 -- the mark of a choice is one of two
 choice_marks : (k : ℕ) → is_choice k ≡ true → (k ≡ k_plus) ⊎ (k ≡ k_with)
@@ -63,56 +61,56 @@ atom_suc m s c = refl
 module _ (s w : List ℕ) (c : Cursor) (k : Tally) (room : Room s w c k) where
   -- ── 1, and a name
   module _ {q : Taken} (u : Stepped s c 1 1 0 (type_term s k_one c) q) where
-    pub one_no : {r : Out} {n i : ℕ} → q ≡ Refused n i → r ≡ as_out q → OneRead s w c k r w
-    one_no g h = meets_no s w c k (refused_out g h) same (λ m _. rw (took u g))
+    pub one_no : {r : Out} {y : Refusal} → q ≡ Err y → r ≡ Err y → OneRead s w c k r w
+    one_no g h = meets_no s w c k h same (λ m _. rw (took u g))
 
-    pub one_got : {i : ℕ} {d : Cursor} {v : List ℕ} → q ≡ At i d → v ≡ put_node w k.nodes (type_node 0 0 0) → OneRead s w c k (Got d (more_nodes k)) v
+    pub one_got : {i : ℕ} {d : Cursor} {l : Tally} {v : List ℕ} → q ≡ Ok (i, d)
+        → Put w (put_node w k.nodes (type_node 0 0 0)) (more_nodes k) l v → OneRead s w c k (Ok (d, l)) v
     unfolding after_type write_type FineType
     one_got {i} {d} e p =
         let o = u.on i d e in
-        meets_got s w c k (omega arith) (node_kept k.nodes (type_node 0 0 0) p (omega arith))
-        (λ m _. made_got unit (rw (took u e)) refl p (omega arith))
+        rw p.is (meets_got s w c k (omega arith) p.kept (λ m _. made_got unit (rw (took u e)) refl p.words (omega arith)))
 
   module _ {q : Taken} (u : Stepped s c 1 1 0 (type_term s k_name c) q) where
-    pub name_no : {r : Out} {n i : ℕ} → q ≡ Refused n i → r ≡ as_out q → NameRead s w c k r w
-    name_no g h = meets_no s w c k (refused_out g h) same (λ m _. rw (took u g))
+    pub name_no : {r : Out} {y : Refusal} → q ≡ Err y → r ≡ Err y → NameRead s w c k r w
+    name_no g h = meets_no s w c k h same (λ m _. rw (took u g))
 
-    pub name_got : {i : ℕ} {d : Cursor} {v : List ℕ} → q ≡ At i d → v ≡ put_node w k.nodes (type_node 1 0 i) → NameRead s w c k (Got d (more_nodes k)) v
+    pub name_got : {i : ℕ} {d : Cursor} {l : Tally} {v : List ℕ} → q ≡ Ok (i, d)
+        → Put w (put_node w k.nodes (type_node 1 0 i)) (more_nodes k) l v → NameRead s w c k (Ok (d, l)) v
     unfolding after_type write_type FineType
     name_got {i} {d} e p =
         let o = u.on i d e in
-        meets_got s w c k (omega arith) (node_kept k.nodes (type_node 1 0 i) p (omega arith))
-        (λ m _. made_got (named (name_in s i)) (rw (took u e)) refl p (omega arith))
+        rw p.is (meets_got s w c k (omega arith) p.kept (λ m _. made_got (named (name_in s i)) (rw (took u e)) refl p.words (omega arith)))
 
   -- ── a type in round brackets
   module _ {q : Taken} (u : Stepped s c 1 0 0 (opening s k_round_open c) q) where
-    pub round_no : {r : Out} {n i : ℕ} → q ≡ Refused n i → r ≡ as_out q → RoundRead s w c k r w
-    round_no g h = meets_no s w c k (refused_out g h) same (λ m _. rw (took u g))
+    pub round_no : {r : Out} {y : Refusal} → q ≡ Err y → r ≡ Err y → RoundRead s w c k r w
+    round_no g h = meets_no s w c k h same (λ m _. rw (took u g))
 
-    module _ {i : ℕ} {d : Cursor} (e : q ≡ At i d) {p : Out} {v : List ℕ} (t : TypeRead s w d k p v) where
-      round_inner_no : {n j : ℕ} → p ≡ Not n j → RoundRead s w c k p v
-      round_inner_no g =
+    module _ {i : ℕ} {d : Cursor} (e : q ≡ Ok (i, d)) {p : Out} {v : List ℕ} (t : TypeRead s w d k p v) where
+      round_inner_no : {r : Out} {y : Refusal} → p ≡ Err y → r ≡ Err y → RoundRead s w c k r v
+      round_inner_no g h =
           let o = u.on i d e in
-          meets_no s w c k g t.kept (λ m lo. rw (took u e, stopped (read_type m s d) (t.is m (omega arith)) g))
+          meets_no s w c k h t.kept (λ m lo. rw (took u e, stopped (read_type m s d) (t.is m (omega arith)) g))
 
-      module _ {f : Cursor} {l : Tally} (g : p ≡ Got f l) {x : Taken} (y : Stepped s f 1 0 0 (expect s k_round_close f) x) where
-        round_close_no : {r : Out} {n j : ℕ} → x ≡ Refused n j → r ≡ as_out x → RoundRead s w c k r v
+      module _ {f : Cursor} {l : Tally} (g : p ≡ Ok (f, l)) {x : Taken} (y : Stepped s f 1 0 0 (expect s k_round_close f) x) where
+        round_close_no : {r : Out} {y : Refusal} → x ≡ Err y → r ≡ Err y → RoundRead s w c k r v
         round_close_no z h =
             let o = u.on i d e in
-            meets_no s w c k (refused_out z h) t.kept
+            meets_no s w c k h t.kept
             (λ m lo. gone_on (read_type m s d) (t.is m (omega arith)) g λ A a _ _ _. rw (took u e, a, took y z))
 
-        round_got : {j : ℕ} {b : Cursor} → x ≡ At j b → RoundRead s w c k (Got (closed c b) l) v
+        round_got : {j : ℕ} {b : Cursor} → x ≡ Ok (j, b) → RoundRead s w c k (Ok (closed c b, l)) v
         round_got {j} {b} z =
             let o = u.on i d e in
             let o₂ = t.on f l g in
             let o₃ = y.on j b z in
             meets_got s w c k (omega arith) t.kept
             (λ m lo. gone_on (read_type m s d) (t.is m (omega arith)) g λ A a al av fi.
-            made_got A (rw (took u e, a, took y z)) (ap (Got (closed c b)) al) av fi)
+            made_got A (rw (took u e, a, took y z)) (ap (λ x. Ok (closed c b, x)) al) av fi)
 
       pub round_closed : {r : Out} → Closes s c p r → RoundRead s w c k r v
-      round_closed (not_read g h) = rw h (round_inner_no g)
+      round_closed (not_read g h) = round_inner_no g h
       round_closed (not_closed g y z h) = round_close_no g y z h
       round_closed (read g y z h) = rw h (round_got g y z)
 
@@ -147,12 +145,12 @@ choice_fine kind r f = go (eqb kind k_plus)
 -- two tokens in a row, in the definition's words
 pub then_take : {A : Type 0} (want : Taken) (g : Cursor → Taken) (f : ℕ → Cursor → Result A)
     → on_token (then_token want g) f ≡ on_token want (λ i d. on_token (g d) (λ _ e. f i e))
-then_take {A} (At i d) g f = go (g d)
+then_take {A} (Ok (i, d)) g f = go (g d)
   where
     go : (x : Taken) → ◌≡◌ {A = Result A} (on_token (onward_from i x) f) (on_token x (λ _ e. f i e))
-    go (At j e) = refl
-    go (Refused n j) = refl
-then_take (Refused n i) g f = refl
+    go (Ok (j, e)) = refl
+    go (Err y) = refl
+then_take (Err y) g f = refl
 
 module _ (s w : List ℕ) (c : Cursor) (k : Tally) (room : Room s w c k) where
   -- ── a choice
@@ -163,25 +161,25 @@ module _ (s w : List ℕ) (c : Cursor) (k : Tally) (room : Room s w c k) where
     unfolding choice_opening
     choice_is m = sym (then_take (type_term s kind c) (opening s k_brace_open) _)
 
-    pub choice_no : {r : Out} {n i : ℕ} → q ≡ Refused n i → r ≡ as_out q → ChoiceRead kind s w c k r w
-    choice_no g h = meets_no s w c k (refused_out g h) same (λ m _. choice_is m ∙ rw (took u g))
+    pub choice_no : {r : Out} {y : Refusal} → q ≡ Err y → r ≡ Err y → ChoiceRead kind s w c k r w
+    choice_no g h = meets_no s w c k h same (λ m _. choice_is m ∙ rw (took u g))
 
-    module _ {i : ℕ} {d : Cursor} (e : q ≡ At i d) {p : Out} {v : List ℕ} (t : AlternativesRead s w d (more_nodes k) p v) where
-      pub choice_list_no : {n j : ℕ} → p ≡ Not n j → ChoiceRead kind s w c k p v
-      choice_list_no g =
+    module _ {i : ℕ} {d : Cursor} (e : q ≡ Ok (i, d)) {p : Out} {v : List ℕ} (t : AlternativesRead s w d (more_nodes k) p v) where
+      pub choice_list_no : {r : Out} {y : Refusal} → p ≡ Err y → r ≡ Err y → ChoiceRead kind s w c k r v
+      choice_list_no g h =
           let o = u.on i d e in
-          meets_no s w c k g t.kept (λ m lo. choice_is m ∙ rw (took u e, stopped (read_alternatives m s 0 d) (t.is m (omega arith)) g))
+          meets_no s w c k h t.kept (λ m lo. choice_is m ∙ rw (took u e, stopped (read_alternatives m s 0 d) (t.is m (omega arith)) g))
 
-      module _ {f : Cursor} {l : Tally} (g : p ≡ Got f l) {x : Taken} (y : Stepped s f 1 0 0 (expect s k_brace_close f) x) where
-        pub choice_close_no : {r : Out} {n j : ℕ} → x ≡ Refused n j → r ≡ as_out x → ChoiceRead kind s w c k r v
+      module _ {f : Cursor} {l : Tally} (g : p ≡ Ok (f, l)) {x : Taken} (y : Stepped s f 1 0 0 (expect s k_brace_close f) x) where
+        pub choice_close_no : {r : Out} {y : Refusal} → x ≡ Err y → r ≡ Err y → ChoiceRead kind s w c k r v
         choice_close_no z h =
             let o = u.on i d e in
-            meets_no s w c k (refused_out z h) t.kept
+            meets_no s w c k h t.kept
             (λ m lo. gone_on (read_alternatives m s 0 d) (t.is m (omega arith)) g λ r a _ _ _. choice_is m ∙ rw (took u e, a, took y z))
 
-        pub choice_got : {j : ℕ} {b : Cursor} {l₂ : Tally} {v₂ : List ℕ} → x ≡ At j b
+        pub choice_got : {j : ℕ} {b : Cursor} {l₂ : Tally} {v₂ : List ℕ} → x ≡ Ok (j, b)
             → v₂ ≡ put_node v k.nodes (type_node (kind - 23) l.alternatives l.last)
-            → l₂ ≡ lasting k.nodes l → ChoiceRead kind s w c k (Got (closed c b) l₂) v₂
+            → l₂ ≡ lasting k.nodes l → ChoiceRead kind s w c k (Ok (closed c b, l₂)) v₂
         choice_got {j} {b} z words tally =
             let o = u.on i d e in
             let o₂ = t.on f l g in
@@ -192,7 +190,7 @@ module _ (s w : List ℕ) (c : Cursor) (k : Tally) (room : Room s w c k) where
             (meets_got s w c k (omega arith) (node_kept k.nodes (node l) words few upon t.kept)
             (λ m lo. gone_on (read_alternatives m s 0 d) (t.is m (omega arith)) g λ r a al av fi.
             made_got (choice_of kind r) (choice_is m ∙ rw (took u e, a, took y z))
-            ((λ i. Got (closed c b) (lasting k.nodes (al i))) ∙ ap (Got (closed c b)) (sym (choice_after kind r k)))
+            ((λ i. Ok (closed c b, lasting k.nodes (al i))) ∙ ap (λ x. Ok (closed c b, x)) (sym (choice_after kind r k)))
             (words ∙ (λ i. put_choice (kind - 23) k (al i) (av i))
             ∙ sym (alternatives_put k.nodes (node (after_alternatives r (more_nodes k))) few r (more_nodes k) w (omega arith))
             ∙ sym (choice_write kind r k w low high))
@@ -233,7 +231,7 @@ module _ (s w : List ℕ) (c : Cursor) (k : Tally) (room : Room s w c k) where
         go (inl x) = atom_as (ap type_head x) (omega arith) t (λ m. rw x)
         go (inr x) = atom_as (ap type_head x) (omega arith) t (λ m. rw x)
 
-    pub atom_other : {r : Out} → (kind ≡ k_one → ⊥) → (kind ≡ k_name → ⊥) → (kind ≡ k_round_open → ⊥) → is_choice kind ≡ false → r ≡ misfit_out s c
+    pub atom_other : {r : Out} → (kind ≡ k_one → ⊥) → (kind ≡ k_name → ⊥) → (kind ≡ k_round_open → ⊥) → is_choice kind ≡ false → r ≡ Err (misfit_refusal s c)
         → AtomRead s w c k r w
     unfolding atom_by misfit
     atom_other a b c' e h = more_no type_form s w c k (λ m. read_atom m s c) h same (λ m _. atom_by_lem (head_other kind a b c' e) m)

@@ -1,11 +1,12 @@
 -- What the reader's code promises: its steps, where a reading goes on, and the words that it leaves.
-use Rattle.std.specs.Prelude.{◌≡◌, ℕ, zero, suc, ◌+◌, ◌-◌, ◌*◌, ◌<◌, ◌≤◌, List, Bool, true, cond, ◌||◌, length, get_or, drop, set, eqb}
+use Rattle.std.specs.Prelude.{◌≡◌, ℕ, zero, suc, ◌+◌, ◌-◌, ◌*◌, ◌<◌, ◌≤◌, List, Bool, true, cond, ◌||◌, length, get_or, drop, set, eqb, ltb, Ok, Err}
 use Rattle.notation.specs.Fine.{SomeAlternative, FineType, FineAlternatives}
 use Rattle.notation.specs.Limits.{text_limit, label_limit, type_term_limit, process_term_limit}
 use Rattle.notation.specs.Token.{token_at, k_colon, k_round_close, k_brace_open, k_star, k_at, k_one, k_name, k_plus, k_with}
 use Rattle.notation.specs.Onward.{width}
 use Rattle.notation.specs.Tree.{Located, Ty, unit, named, plus, with, Alternatives}
-use Rattle.notation.specs.Reader.{Result, got, refused, on_token, fault, expect, opening, type_term, closed, then_token, name_in}
+use Rattle.notation.specs.Refusals.{OrRefusal, refusal, refuses}
+use Rattle.notation.specs.Reader.{Result, Taken, got, refused, on_token, fault, expect, opening, type_term, closed, then_token, name_in}
 use Rattle.notation.specs.Types.{read_type, read_atom, read_alternatives, is_infix, label_term, round_by, choice_by}
 use Rattle.notation.specs.Tables.{after_type, after_alternatives, write_type, write_alternatives, put_node, type_node, alternatives_at, Area, offset_radix, pointer_radix, table_words}
 use Rattle.notation.specs.declared.reading.Tally.{Tally}
@@ -13,10 +14,11 @@ use Rattle.notation.specs.declared.reading.TypeNode.{TypeNode}
 use Rattle.notation.specs.declared.reading.TermNode.{TermNode}
 use Rattle.notation.specs.declared.reading.ProcessEntry.{ProcessEntry}
 use Rattle.notation.specs.declared.reading.Cursor.{Cursor}
-use Rattle.notation.specs.declared.reading.Taken.{Taken}
-use Rattle.notation.specs.declared.reading.Taken.TheVariants.{At, Refused}
-use Rattle.read_types.specs.declared.steps.Out.{Out}
-use Rattle.read_types.specs.declared.steps.Out.TheVariants.{Got, Not}
+use Rattle.notation.specs.declared.refusal.Refusal.{Refusal}
+
+-- where a reading went on to, with the fill of the tables; or a refusal
+abbrev pub Out : Type 0
+Out = OrRefusal (Cursor × Tally)
 
 -- where a step goes on: n bytes later at least, within the text, with so many type terms and process terms more
 abbrev pub Further : List ℕ → Cursor → ℕ → ℕ → ℕ → ℕ → Cursor → Type 0
@@ -32,36 +34,32 @@ Further s c n types terms i d =
 -- r is what was wanted, and where it goes on
 pub record Stepped (s : List ℕ) (c : Cursor) (n types terms : ℕ) (want r : Taken) : Type 0 where
   pub is : r ≡ want
-  pub on : (i : ℕ) (d : Cursor) → r ≡ At i d → Further s c n types terms i d
+  pub on : (i : ℕ) (d : Cursor) → r ≡ Ok (i, d) → Further s c n types terms i d
 
 -- before e stands a token of this kind, and before that the step p that was taken at i
 abbrev pub Behind : List ℕ → Taken → ℕ → ℕ → Cursor → Type 0
-Behind s p kind i e = (d : Cursor) × (p ≡ At i d) × (d.at + width kind ≤ e.at) × (e.at ≤ length s) × (e.types ≡ d.types) × (e.terms ≡ d.terms)
+Behind s p kind i e = (d : Cursor) × (p ≡ Ok (i, d)) × (d.at + width kind ≤ e.at) × (e.at ≤ length s) × (e.types ≡ d.types) × (e.terms ≡ d.terms)
 
 -- r is the step p, and then the token of this kind
 pub record Followed (s : List ℕ) (p : Taken) (kind : ℕ) (r : Taken) : Type 0 where
   pub is : r ≡ then_token p (expect s kind)
-  pub on : (i : ℕ) (e : Cursor) → r ≡ At i e → Behind s p kind i e
-
--- the refusal of a step
-abbrev pub as_out : Taken → Out
-as_out (At i c) = Not 0 0
-as_out (Refused n i) = Not n i
+  pub on : (i : ℕ) (e : Cursor) → r ≡ Ok (i, e) → Behind s p kind i e
 
 -- r is the answer p, and then the bracket that closes: p's refusal, the bracket's, or p with as many open as at c
 pub data Closes (s : List ℕ) (c : Cursor) (p r : Out) : Type 0 where
-  not_read : {n j : ℕ} → p ≡ Not n j → r ≡ p → Closes s c p r
-  not_closed : {e : Cursor} {l : Tally} {x : Taken} {n j : ℕ} → p ≡ Got e l → Stepped s e 1 0 0 (expect s k_round_close e) x → x ≡ Refused n j → r ≡ as_out x
+  not_read : {y : Refusal} → p ≡ Err y → r ≡ Err y → Closes s c p r
+  not_closed : {e : Cursor} {l : Tally} {x : Taken} {y : Refusal} → p ≡ Ok (e, l) → Stepped s e 1 0 0 (expect s k_round_close e) x → x ≡ Err y → r ≡ Err y
       → Closes s c p r
-  read : {e b : Cursor} {l : Tally} {x : Taken} {j : ℕ} → p ≡ Got e l → Stepped s e 1 0 0 (expect s k_round_close e) x → x ≡ At j b → r ≡ Got (closed c b) l
+  read : {e b : Cursor} {l : Tally} {x : Taken} {j : ℕ} → p ≡ Ok (e, l) → Stepped s e 1 0 0 (expect s k_round_close e) x → x ≡ Ok (j, b) → r ≡ Ok (closed c b, l)
       → Closes s c p r
 
 -- no token fits here
-abbrev pub misfit_taken : List ℕ → Cursor → Taken
-misfit_taken s c = Refused (fault (token_at s c.at)) (token_at s c.at).start
+abbrev pub misfit_refusal : List ℕ → Cursor → Refusal
+misfit_refusal s c = refusal (fault (token_at s c.at)) (token_at s c.at).start
 
-abbrev pub misfit_out : List ℕ → Cursor → Out
-misfit_out s c = as_out (misfit_taken s c)
+-- the token at i, before which n were counted, is within their limit
+abbrev pub within_limit : ℕ → ℕ → ℕ → OrRefusal (Unit {0})
+within_limit i n limit = cond (ltb n limit) (Ok tt) (refuses 5 i)
 
 -- a label within its list's limit, and its colon
 unfoldable pub label_colon : List ℕ → ℕ → Cursor → Taken
@@ -136,8 +134,8 @@ pub record Form (A : Type 0) : Type 1 where
 
 -- an answer r and the words v are those of the definition's answer
 abbrev pub MadeOf : {A : Type 0} → Form A → List ℕ → Tally → Result A → Out → List ℕ → Type 0
-MadeOf F w k (got a d) r v = (r ≡ Got d (F.after a k)) × (v ≡ F.write a k w) × F.Fine a
-MadeOf F w k (refused n i) r v = r ≡ Not n i
+MadeOf F w k (got a d) r v = (r ≡ Ok (d, F.after a k)) × (v ≡ F.write a k w) × F.Fine a
+MadeOf F w k (refused n i) r v = r ≡ refuses n i
 
 -- the same, under a name from which antt reads what it is of
 pub record Made {A : Type 0} (F : Form A) (w : List ℕ) (k : Tally) (x : Result A) (r : Out) (v : List ℕ) : Type 0 where
@@ -147,7 +145,7 @@ pub record Made {A : Type 0} (F : Form A) (w : List ℕ) (k : Tally) (x : Result
 pub record Meets {A : Type 0} (F : Form A) (s w : List ℕ) (c : Cursor) (k : Tally) (bound : ℕ) (f : ℕ → Result A) (r : Out) (v : List ℕ) : Type 0 where
   pub is : (m : ℕ) → bound < m → Made F w k (f m) r v
   pub kept : Kept w v
-  pub on : (d : Cursor) (l : Tally) → r ≡ Got d l → F.Ahead s c k d l
+  pub on : (d : Cursor) (l : Tally) → r ≡ Ok (d, l) → F.Ahead s c k d l
 
 -- ── types
 -- no declaration was appended

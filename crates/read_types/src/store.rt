@@ -10,6 +10,7 @@ use notation::script::Script;
 use notation::tables::{NODES_AT, OFFSET_RADIX, TYPE_KIND_RADIX, TYPE_SECOND_UNIT};
 
 // The word at i is n.
+#[tactic(auto, using(crate::proofs::Filled::word_put))]
 pub fn put_word(scratch: &mut [u32], i: usize, n: usize)
     requires { Area scratch.old × (i < table_words) × (n < 4294967296) }
     ensures { WordPut scratch.old i n scratch.new }
@@ -18,6 +19,7 @@ pub fn put_word(scratch: &mut [u32], i: usize, n: usize)
 }
 
 // The word of a name or label with the number that belongs to it.
+#[tactic(auto, unfolding(notation::specs::Tables::pair_word))]
 pub fn pair_word(at: u16, n: usize) -> u32
     requires { (at < offset_radix) × (n < pointer_radix) }
     ensures { result ≡ pair_word at n }
@@ -26,6 +28,7 @@ pub fn pair_word(at: u16, n: usize) -> u32
 }
 
 // The word at i is a name or label with the number that belongs to it.
+#[tactic(auto, using(crate::proofs::Filled::word_put))]
 pub fn put_pair(scratch: &mut [u32], i: usize, at: u16, n: usize)
     requires { Area scratch.old × (i < table_words) × (at < offset_radix) × (n < pointer_radix) }
     ensures { WordPut scratch.old i (pair_word at n) scratch.new }
@@ -38,16 +41,13 @@ pub fn put_list(scratch: &mut [u32], kept: &[u32; Script::LABELS], n: usize, at:
     requires { Area scratch.old × (n ≤ label_limit) × (at + n ≤ table_words) }
     ensures { ListPut scratch.old kept.now n at scratch.new }
 {
-    let mut i = n;
-    let mut next = at;
-    while 0 < i {
-        i -= 1;
-        scratch[next] = kept[i];
-        next += 1;
+    for i in 0..n {
+        scratch[at + i] = kept[n - 1 - i];
     }
 }
 
 // The type node of this number is n.
+#[tactic(auto, unfolding(notation::specs::Tables::put_node, notation::specs::Tables::type_word))]
 pub(crate) fn put_node(scratch: &mut [u32], i: usize, n: TypeNode)
     requires { Area scratch.old × (i < type_term_limit) × Fits n }
     ensures { scratch.new ≡ put_node scratch.old i n }
@@ -63,7 +63,5 @@ pub(crate) fn put_node(scratch: &mut [u32], i: usize, n: TypeNode)
 pub fn lasting(k: Tally, n: usize) -> Tally
     ensures { result ≡ lasting n k }
 {
-    let mut l = k;
-    l.last = n;
-    l
+    Tally { last: n, ..k }
 }

@@ -1,5 +1,6 @@
 -- A call: the channels of its lists under the names of the signature.
 use Rattle.std.specs.Prelude.{ℕ, zero, suc, ◌+◌, ◌-◌, ◌≤◌, ◌<◌, ◌≡◌, length}
+use Rattle.std.specs.Prelude.{Option as CodeOption, Some, None}
 use Rattle.std.proofs.Math.Path.{refl, sym, ap, subst}
 use Rattle.std.proofs.Common.{◌∙◌, arith}
 use mathlib.Core.List.{List, [], ◌∷◌, ◌++◌}
@@ -15,8 +16,6 @@ use Rattle.calculus.specs.Typing.{names_of}
 use Rattle.calculus.specs.Configuration.{End, end, goes_on, replaced}
 use Rattle.calculus.specs.Steps.{Outcome, renamed_end, renamed, entering, calling}
 use Rattle.calculus.specs.declared.answers.Seen.TheVariants as Seen
-use Rattle.notation.specs.declared.reading.Found.{Found}
-use Rattle.notation.specs.declared.reading.Found.TheVariants as found
 use Rattle.read_tables.specs.Access.{EntryOf, entry_there, as_entry, SignatureOf}
 use Rattle.read_tables.specs.Decode.{tally_in, entries_in, process_in, arguments_at}
 use Rattle.read_tables.specs.Names.{argument_from, NamesFrom, CallAt}
@@ -37,8 +36,6 @@ use Rattle.run_words.specs.Values as values
 use Rattle.check_contexts.specs.Held.{channels_of, EndIn, HeldIn, end_found, Sees, Brings}
 use Rattle.check_contexts.specs.Halves.{append-nil, append_assoc}
 use Rattle.check_contexts.specs.Walks.{Ends, Walking, walk_start, walk_on, walk_end}
-use Rattle.check_contexts.specs.declared.held.Lookup.{Lookup}
-use Rattle.check_contexts.specs.declared.held.Lookup.TheVariants as lookups
 use Rattle.run_alone.specs.declared.outcome.Outcome.TheVariants.{Carried, NotOpen}
 use Rattle.run_alone.specs.Run.{config_in, process_as, Becomes, Carries}
 use Rattle.run_alone.specs.Changes.{channels_many}
@@ -49,14 +46,14 @@ pub record EntersEnd (s w : List ℕ) (h r : Held) (a at side node : ℕ) (q : H
   pub fits : HeldIn s w q
   pub few : q.count ≤ r.count + 1
 
-module _ (s w : List ℕ) (h r : Held) (a at side node : ℕ) {f : Lookup} (o : Sees s h a f) (u : HeldIn s w r) where
+module _ (s w : List ℕ) (h r : Held) (a at side node : ℕ) {f : CodeOption EndWords} (o : Sees s h a f) (u : HeldIn s w r) where
   abbrev joined : Option End → List (Name × End)
   joined d = channels_of s w r ++ renamed_end (name_at s at, slot (side_of side) (plain_in s w node)) d
 
-  pub enters_none : f ≡ lookups.Nothing → EntersEnd s w h r a at side node r
+  pub enters_none : f ≡ None → EntersEnd s w h r a at side node r
   enters_none e = record { is = sym (append-nil (channels_of s w r)) ∙ ap joined (sym (o.is w ∙ ap (end_found s w) e)); fits = u; few = omega arith }
 
-  pub enters_found : (d : EndWords) (q : Held) → f ≡ lookups.Found d → TypeIn s w node → Brings r at side node d.channel q → EntersEnd s w h r a at side node q
+  pub enters_found : (d : EndWords) (q : Held) → f ≡ Some d → TypeIn s w node → Brings r at side node d.channel q → EntersEnd s w h r a at side node q
   enters_found d q e t b =
       let z : channels_of s w q ≡ channels_of s w r ++ ((name_at s at, end (side_of side) d.channel (plain_in s w node)) ∷ []) = b.is s w in
       record {
@@ -191,12 +188,12 @@ pub record CallIn (s w : List ℕ) (name bracket : ℕ) : Type 0 where
   pub lists : CallAt s bracket (arguments_at s bracket).0 (arguments_at s bracket).1
   pub fitting : (g : Signature) → lookup (name_at s name) (program_in s w).processes ≡ some g → (length (arguments_at s bracket).0 ≡ length g.provides) × (length (signature_context g) ≤ held_limit)
 
-module _ (s w old : List ℕ) (i : ℕ) (p : ProcessWords) (name bracket : ℕ) {f : Found} (a : Sought (name_at s name) (program_in s w).processes (named_process s w) (tally_in w).processes f) where
-  pub calls_nothing : f ≡ found.Nothing → Carries s w old old NotOpen (calling_by s w old i p name bracket)
+module _ (s w old : List ℕ) (i : ℕ) (p : ProcessWords) (name bracket : ℕ) {f : CodeOption ℕ} (a : Sought (name_at s name) (program_in s w).processes (named_process s w) (tally_in w).processes f) where
+  pub calls_nothing : f ≡ None → Carries s w old old NotOpen (calling_by s w old i p name bracket)
   unfolding calling
   calls_nothing e = subst (λ o. Carries s w old old NotOpen (entering (config_in s w old) i (process_as s w p) (names_of (arguments_at s bracket).0 ++ names_of (arguments_at s bracket).1) o)) (sym (a.is ∙ ap (λ x. map (λ j. (named_process s w j).1) (place_of x)) e)) (record { is = (refl, refl) })
 
-  module _ (k : ℕ) (e : f ≡ found.At k) (d : Declared) (b : SignatureOf w k d) (t : Tables s w) (c : CallIn s w name bracket) where
+  module _ (k : ℕ) (e : f ≡ Some k) (d : Declared) (b : SignatureOf w k d) (t : Tables s w) (c : CallIn s w name bracket) where
     declared_is : lookup (name_at s name) (program_in s w).processes ≡ some (signature_of s w (as_entry d))
     declared_is = a.is ∙ ap (λ x. map (λ j. (named_process s w j).1) (place_of x)) e ∙ ap (λ x. some x.1) (b.is s)
 

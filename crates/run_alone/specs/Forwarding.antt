@@ -1,5 +1,6 @@
 -- Forwarding: the two far ends become one channel.
 use Rattle.std.specs.Prelude.{ℕ, ◌<◌, ◌≡◌, refl, List, [], ◌∷◌, true, false, cond, length, set}
+use Rattle.std.specs.Prelude.{Option, Some, None}
 use Rattle.std.proofs.Common.{sym, ◌∙◌, subst, true≢false, arith, length-set}
 use Rattle.std.proofs.Math.Path.{ap}
 use Rattle.std.proofs.Math.Option.{some}
@@ -30,8 +31,6 @@ use Rattle.run_words.specs.declared.records.Process.{Process as ProcessWords}
 use Rattle.run_words.specs.declared.records.Far.{Far}
 use Rattle.run_words.specs.declared.records.Far.TheVariants as far
 use Rattle.check_contexts.specs.Held.{end_is, ends_in, channels_of, EndIn, HeldIn, Sees}
-use Rattle.check_contexts.specs.declared.held.Lookup.{Lookup}
-use Rattle.check_contexts.specs.declared.held.Lookup.TheVariants as lookups
 use Rattle.run_alone.specs.declared.outcome.Outcome.{Outcome as OutcomeWords}
 use Rattle.run_alone.specs.declared.outcome.Outcome.TheVariants.{Carried, NotOpen}
 use Rattle.run_alone.specs.Run.{config_in, process_as, RunOf, ProcessOf, StandsAt, Becomes, Carries}
@@ -168,17 +167,17 @@ module _ (s w old : List ℕ) (i : ℕ) (p : ProcessWords) (x c : ℕ) where
   abbrev forwarding_by : Outcome
   forwarding_by = forwarding (config_in s w old) i (process_as s w p) (name_in s x) (name_in s c)
 
-  module _ {f : Lookup} (a : Sees s p.held x f) where
-    pub no_provided : f ≡ lookups.Nothing → Carries s w old old NotOpen forwarding_by
+  module _ {f : Option EndWords} (a : Sees s p.held x f) where
+    pub no_provided : f ≡ None → Carries s w old old NotOpen forwarding_by
     unfolding forwarding
     no_provided q = held_none a _ q
 
-    module _ {e : EndWords} (m : f ≡ lookups.Found e) {g : Lookup} (b : Sees s p.held c g) where
-      pub no_used : g ≡ lookups.Nothing → Carries s w old old NotOpen forwarding_by
+    module _ {e : EndWords} (m : f ≡ Some e) {g : Option EndWords} (b : Sees s p.held c g) where
+      pub no_used : g ≡ None → Carries s w old old NotOpen forwarding_by
       unfolding forwarding
       no_used q = held_some a _ m (held_none b _ q)
 
-      module _ {d : EndWords} (n : g ≡ lookups.Found d) {new : List ℕ} {r : OutcomeWords} where
+      module _ {d : EndWords} (n : g ≡ Some d) {new : List ℕ} {r : OutcomeWords} where
         forwards : Carries s w old new r (joining (config_in s w old) i (process_as s w p) (end_as s w e) (end_as s w d) (far_of s w old d)) → Carries s w old new r forwarding_by
         unfolding forwarding
         forwards k = held_some a _ m (held_some b _ n k)

@@ -1,5 +1,6 @@
 -- An end is given up; a process folds up.
 use Rattle.std.specs.Prelude.{ℕ, ◌<◌, ◌≡◌, refl, List, Bool, true, false, length, set}
+use Rattle.std.specs.Prelude.{Option as CodeOption, Some, None}
 use Rattle.std.proofs.Common.{sym, ◌∙◌, ap, subst, arith}
 use Rattle.std.proofs.lemmas.Bool.{false≢true}
 use Rattle.std.proofs.Math.Option.{Option, some}
@@ -26,8 +27,6 @@ use Rattle.run_words.specs.declared.records.Process.{Process as ProcessWords}
 use Rattle.run_words.specs.declared.records.Far.{Far}
 use Rattle.run_words.specs.declared.records.Far.TheVariants as far
 use Rattle.check_contexts.specs.Held.{end_is, channels_of, EndIn, HeldIn, end_found, FoundIn, Sees}
-use Rattle.check_contexts.specs.declared.held.Lookup.{Lookup}
-use Rattle.check_contexts.specs.declared.held.Lookup.TheVariants as lookups
 use Rattle.run_alone.specs.declared.outcome.Outcome.TheVariants.{Carried, NotOpen}
 use Rattle.run_alone.specs.declared.outcome.Outcome.{Outcome as OutcomeWords}
 use Rattle.run_alone.specs.Run.{config_in, process_as, RunOf, ProcessOf, Becomes, Carries}
@@ -46,11 +45,6 @@ pub record GivesUp (s w old new : List ℕ) (e : EndWords) (r : Seen) : Type 0 w
   pub becomes : Becomes s w old new (letting_go (config_in s w old) (end_as s w e))
 
 -- ── the far end
-abbrev is_outside : Far → Bool
-is_outside (far.Process i j) = false
-is_outside (far.Outside j) = true
-is_outside far.GivenUp = false
-
 module _ (s w old : List ℕ) (e : EndWords) where
   abbrev far_of : calculus.Far
   far_of = far_end (config_in s w old) (end_as s w e)
@@ -58,12 +52,12 @@ module _ (s w old : List ℕ) (e : EndWords) where
   abbrev Silent : calculus.Far → Type 0
   Silent F = (seen_at F ≡ Nothing) × ((k : ℕ) (l : List Outside) → outside_after F k l ≡ l)
 
-  silent : (f : Far) {F : calculus.Far} → FarAs (name_at s) (plain_in s w) (process_in s w) (raw_in old) f F → is_outside f ≡ false → Silent F
+  silent : (f : Far) {F : calculus.Far} → FarAs (name_at s) (plain_in s w) (process_in s w) (raw_in old) f F → ((k : ℕ) → f ≡ far.Outside k → ⊥) → Silent F
   silent (far.Process i j) (at_process g h) z = (refl, λ k l. refl)
-  silent (far.Outside j) (at_outside g) z = absurd (false≢true (sym z))
+  silent (far.Outside j) (at_outside g) z = absurd (z j refl)
   silent far.GivenUp given_up z = (refl, λ k l. refl)
 
-  pub gives_silently : (f : Far) → RunOf s w old → f ≡ raw.far_end (raw_in old) e.channel (side_of e.side) → is_outside f ≡ false → GivesUp s w old old e Nothing
+  pub gives_silently : (f : Far) → RunOf s w old → f ≡ raw.far_end (raw_in old) e.channel (side_of e.side) → ((k : ℕ) → f ≡ far.Outside k → ⊥) → GivesUp s w old old e Nothing
   gives_silently f t q z =
       let a : Silent far_of = silent f (subst (λ (x : Far). FarAs (name_at s) (plain_in s w) (process_in s w) (raw_in old) x far_of) (sym q) (decoded_far (name_at s) (plain_in s w) (process_in s w) (raw_in old) e.channel (side_of e.side) (plain_in s w e.node))) z in
       record {
@@ -95,13 +89,13 @@ pub folds : (s w : List ℕ) (p : ProcessWords) (h : Held) {n : ℕ} → Process
 folds s w p h t u = record { kind = omega arith; pointer = t.pointer; link = t.link; term = λ z. absurd (z refl); held = u }
 
 -- ── a rule that acts on a channel by its name
-module _ {s w old : List ℕ} {h : Held} {at : ℕ} {f : Lookup} (t : Sees s h at f) (k : End → Outcome) where
-  pub held_none : f ≡ lookups.Nothing → Carries s w old old NotOpen (on_held (lookup (name_at s at) (channels_of s w h)) k)
+module _ {s w old : List ℕ} {h : Held} {at : ℕ} {f : CodeOption EndWords} (t : Sees s h at f) (k : End → Outcome) where
+  pub held_none : f ≡ None → Carries s w old old NotOpen (on_held (lookup (name_at s at) (channels_of s w h)) k)
   held_none e = subst (λ (o : Option End). Carries s w old old NotOpen (on_held o k)) (sym (t.is w ∙ ap (end_found s w) e)) (record { is = (refl, refl) })
 
-  pub held_some : {new : List ℕ} {e : EndWords} {r : OutcomeWords} → f ≡ lookups.Found e → Carries s w old new r (k (end_as s w e)) → Carries s w old new r (on_held (lookup (name_at s at) (channels_of s w h)) k)
+  pub held_some : {new : List ℕ} {e : EndWords} {r : OutcomeWords} → f ≡ Some e → Carries s w old new r (k (end_as s w e)) → Carries s w old new r (on_held (lookup (name_at s at) (channels_of s w h)) k)
   held_some {new} {r = r} e c = subst (λ (o : Option End). Carries s w old new r (on_held o k)) (sym (t.is w ∙ ap (end_found s w) e)) c
 
 -- what was found is an end of the text
-pub end_found_lem : {s w : List ℕ} {h : Held} {at : ℕ} {f : Lookup} {e : EndWords} → Sees s h at f → f ≡ lookups.Found e → HeldIn s w h → EndIn s w (end_in e) × (e.side < 2)
+pub end_found_lem : {s w : List ℕ} {h : Held} {at : ℕ} {f : CodeOption EndWords} {e : EndWords} → Sees s h at f → f ≡ Some e → HeldIn s w h → EndIn s w (end_in e) × (e.side < 2)
 end_found_lem {s} {w} t e u = subst (FoundIn s w) e (t.fits w u)

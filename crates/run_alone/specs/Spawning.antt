@@ -1,13 +1,12 @@
 -- Spawn: a process comes, and a channel between it and its maker.
 use Rattle.std.specs.Prelude.{ℕ, ◌≤◌, ◌<◌, ◌≡◌, refl, List, [], ◌∷◌, ◌++◌, Bool, length, set}
+use Rattle.std.specs.Prelude.{Option as CodeOption, Some, None}
 use Rattle.std.proofs.Common.{sym, ◌∙◌, ap, subst, length-set}
 use Rattle.std.proofs.Math.Bool.{true, false}
 use Rattle.std.proofs.Math.Option.{Option, some, none}
 use Rattle.notation.specs.Limits.{text_limit, process_places, channel_places, held_limit, type_term_limit}
 use Rattle.notation.specs.Token.{name_at}
 use Rattle.notation.specs.Reader.{name_in}
-use Rattle.notation.specs.declared.reading.Found.{Found}
-use Rattle.notation.specs.declared.reading.Found.TheVariants as found
 use Rattle.calculus.specs.Types.{provided, used}
 use Rattle.calculus.specs.Mentions.{spawn_takes, spawn_leaves}
 use Rattle.calculus.specs.Configuration.{end, running, process, Config, with_processes, replaced, goes_on}
@@ -107,14 +106,14 @@ module _ (s w : List ℕ) where
     abbrev pub spawning_by : Outcome
     spawning_by = spawning (config_in s w old) i (process_as s w p) (name_in s m.name) (type_in s w m.node) (process_in s w m.first) (process_in s w m.second)
 
-    module _ {f : Found} (e : f ≡ found_in (raw.fresh_channel (raw_in old))) where
+    module _ {f : CodeOption ℕ} (e : f ≡ found_in (raw.fresh_channel (raw_in old))) where
       -- what was found is what the calculus finds
       fresh : {o : Option ℕ} → f ≡ found_in o → calculus.fresh_channel (config_in s w old) ≡ o
       fresh {o} q = decoded_fresh (name_at s) (plain_in s w) (process_in s w) (raw_in old) ∙ same_found (raw.fresh_channel (raw_in old)) o (sym e ∙ q)
         where
-          place : Found → Option ℕ
-          place (found.At k) = some k
-          place found.Nothing = none
+          place : CodeOption ℕ → Option ℕ
+          place (Some k) = some k
+          place None = none
 
           back : (o : Option ℕ) → place (found_in o) ≡ o
           back none = refl
@@ -123,14 +122,14 @@ module _ (s w : List ℕ) where
           same_found : (o r : Option ℕ) → found_in o ≡ found_in r → o ≡ r
           same_found o r z = sym (back o) ∙ ap place z ∙ back r
 
-      pub fresh_small : {k : ℕ} → f ≡ found.At k → k < channel_places
+      pub fresh_small : {k : ℕ} → f ≡ Some k → k < channel_places
       fresh_small {k} q = (fresh_free (config_in s w old) (fresh {o = some k} q)).place
 
-      pub no_channel : length (raw_in old).processes < process_places → f ≡ found.Nothing → Carries s w old old Lacking spawning_by
+      pub no_channel : length (raw_in old).processes < process_places → f ≡ None → Carries s w old old Lacking spawning_by
       unfolding spawning
       no_channel h q = a_place s w old _ h (subst (λ o. Carries s w old old Lacking (spawned_by o)) (sym (fresh {o = none} q)) (record { is = (refl, refl) }))
 
-      pub a_channel : {k : ℕ} {new : List ℕ} {r : OutcomeWords} → length (raw_in old).processes < process_places → f ≡ found.At k → Carries s w old new r (spawned_by (some k)) → Carries s w old new r spawning_by
+      pub a_channel : {k : ℕ} {new : List ℕ} {r : OutcomeWords} → length (raw_in old).processes < process_places → f ≡ Some k → Carries s w old new r (spawned_by (some k)) → Carries s w old new r spawning_by
       unfolding spawning
       a_channel {k} {new} {r} h q c = a_place s w old _ h (subst (λ o. Carries s w old new r (spawned_by o)) (sym (fresh {o = some k} q)) c)
 

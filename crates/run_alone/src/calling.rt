@@ -12,9 +12,8 @@ ghost use Rattle.run_alone.specs.Calling.{EntersEnd, EntersList, EntersCall, Cal
 
 use crate::outcome::Outcome;
 use calculus::answers::Seen;
-use check_contexts::held::{Lookup, bring_end, find_end};
+use check_contexts::held::{bring_end, find_end};
 use check_contexts::names::list_end;
-use notation::reading::Found;
 use read_tables::access::{Declared, declared_process, entry};
 use read_tables::arguments::{Argument, list_start, next_argument};
 use read_tables::search::find_process;
@@ -37,11 +36,10 @@ fn enter_end(
     requires count_lt_held_limit { (r.count < held_limit) × (at < text_limit) × (side < side_radix) × (node < type_term_limit) }
     ensures { EntersEnd text.now scratch.now h r a at side node result }
 {
-    let f = find_end(text, h, a);
-    let Lookup::Found(d) = f else {
-        return r;
-    };
-    bring_end(r, at, side, node, d.channel)
+    match find_end(text, h, a) {
+        Some(d) => bring_end(r, at, side, node, d.channel),
+        None => r,
+    }
 }
 
 // What is held after a list was entered, and where its walk stopped.
@@ -73,8 +71,7 @@ fn enter_list(
     let mut i = first;
     let mut left = n;
     while left != 0 {
-        let a = next_argument(text, at);
-        let Argument::Name(there, past) = a else {
+        let Argument::Name(there, past) = next_argument(text, at) else {
             return Entered { held: q, at };
         };
         let e = entry(scratch, i);
@@ -100,10 +97,7 @@ fn past_entries(first: usize, n: usize) -> usize
     requires { (n ≤ held_limit) × ((n ≡ 0 → ⊥) → first < type_term_limit) }
     ensures { result ≡ first + n }
 {
-    if n == 0 {
-        return first;
-    }
-    first + n
+    if n == 0 { first } else { first + n }
 }
 
 // The channels that h holds under the names of a call's lists, under those of the signature of d.
@@ -138,17 +132,17 @@ pub fn call(
     requires call_in { CallIn text.now scratch.now name bracket }
     ensures { Carries text.now scratch.now run.old run.new result (calling_by text.now scratch.now run.old place p name bracket) }
 {
-    let f = find_process(text, scratch, name);
-    let Found::At(k) = f else {
+    let Some(k) = find_process(text, scratch, name) else {
         return Outcome::NotOpen;
     };
     let d = declared_process(scratch, k);
-    let h = p.held;
-    let held = enter_call(text, scratch, h, bracket, d);
-    let mut q = p;
-    q.kind = RUNNING;
-    q.pointer = d.body as u32;
-    q.held = held;
+    let held = enter_call(text, scratch, p.held, bracket, d);
+    let q = Process {
+        kind: RUNNING,
+        pointer: d.body as u32,
+        held,
+        ..p
+    };
     store(run, place, q);
     Outcome::Carried(Seen::Nothing)
 }

@@ -7,7 +7,7 @@ ghost use Rattle.run_alone.specs.Run.{config_in, process_as, RunOf, StandsAt, Ca
 
 use crate::outcome::Outcome;
 use crate::parting::part;
-use check_contexts::held::{Lookup, drop_end, find_end};
+use check_contexts::held::{drop_end, find_end};
 use run_words::records::{Process, RUNNING};
 
 // Cancel: the process gives up the channel c and goes on with the term at a pointer.
@@ -25,15 +25,15 @@ pub fn cancel(
     requires process_in { ProcessIn text.now scratch.now pointer }
     ensures { Carries text.now scratch.now run.old run.new result (cancelling (config_in text.now scratch.now run.old) place (process_as text.now scratch.now p) (name_in text.now c) (process_in text.now scratch.now pointer)) }
 {
-    let h = p.held;
-    let f = find_end(text, h, c);
-    let Lookup::Found(e) = f else {
+    let Some(e) = find_end(text, p.held, c) else {
         return Outcome::NotOpen;
     };
-    let held = drop_end(text, h, c);
-    let mut q = p;
-    q.kind = RUNNING;
-    q.pointer = pointer;
-    q.held = held;
+    let held = drop_end(text, p.held, c);
+    let q = Process {
+        kind: RUNNING,
+        pointer,
+        held,
+        ..p
+    };
     part(text, scratch, run, place, q, e)
 }

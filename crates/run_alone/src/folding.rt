@@ -18,14 +18,15 @@ pub fn fold_up(text: &[u8], scratch: &[u32], run: &mut [u32], place: usize, p: P
     requires unlinked { Unlinked place (raw_in run.old).processes }
     ensures { Carries text.now scratch.now run.old run.new result (folding_up (config_in text.now scratch.now run.old) place (process_as text.now scratch.now p) (channels_of text.now scratch.now p.held)) }
 {
-    let h = p.held;
-    if h.count == 0 {
+    if p.held.count == 0 {
         return leave(text, scratch, run, place, p);
     }
-    let e = end_at(h, 0);
-    let held = without(h, 0);
-    let mut q = p;
-    q.kind = FOLDING;
-    q.held = held;
+    let e = end_at(p.held, 0);
+    let held = without(p.held, 0);
+    let q = Process {
+        kind: FOLDING,
+        held,
+        ..p
+    };
     part(text, scratch, run, place, q, e)
 }

@@ -12,7 +12,7 @@ ghost use Rattle.run_alone.specs.Forwarding.{Empties, far_raw, far_of, moved_ove
 use crate::outcome::Outcome;
 use crate::parting::part;
 use calculus::answers::Seen;
-use check_contexts::held::{Lookup, find_end};
+use check_contexts::held::find_end;
 use run_words::far::{far_end, is_given_up};
 use run_words::held::{end_at, no_ends, replaced};
 use run_words::outside::reroute_outside;
@@ -23,11 +23,11 @@ use run_words::records::{End, FOLDING, Far, Process};
 fn emptied(p: Process) -> Process
     ensures { Empties p result }
 {
-    let held = no_ends();
-    let mut q = p;
-    q.kind = FOLDING;
-    q.held = held;
-    q
+    Process {
+        kind: FOLDING,
+        held: no_ends(),
+        ..p
+    }
 }
 
 // The process q stands at a place; the far end of e, which is at position k of what the process at place j holds, takes the channel of d.
@@ -50,13 +50,13 @@ fn move_far_end(
     ensures { Becomes text.now scratch.now run.old run.new (moved_over (config_in text.now scratch.now run.old) place (process_as text.now scratch.now q) (end_as text.now scratch.now e) (end_as text.now scratch.now d) (far_of text.now scratch.now run.old e)) }
 {
     let r = load(run, j);
-    let h = r.held;
-    let x = end_at(h, k);
-    let mut y = x;
-    y.channel = d.channel;
-    let held = replaced(h, k, y);
-    let mut moved = r;
-    moved.held = held;
+    let x = end_at(r.held, k);
+    let y = End {
+        channel: d.channel,
+        ..x
+    };
+    let held = replaced(r.held, k, y);
+    let moved = Process { held, ..r };
     store(run, place, q);
     store(run, j, moved);
 }
@@ -77,22 +77,15 @@ fn join(
     ensures { Carries text.now scratch.now run.old run.new result (joined_to (config_in text.now scratch.now run.old) place (process_as text.now scratch.now p) (end_as text.now scratch.now e) (end_as text.now scratch.now d) (far_of text.now scratch.now run.old e)) }
 {
     let q = emptied(p);
-    let f = far_end(run, e.channel, e.side);
-    match f {
-        Far::Process(j, k) => {
-            move_far_end(text, scratch, run, place, q, e, d, j, k);
-            return Outcome::Carried(Seen::Nothing);
-        }
-        Far::Outside(k) => {
+    match far_end(run, e.channel, e.side) {
+        Far::Process(j, k) => move_far_end(text, scratch, run, place, q, e, d, j, k),
+        Far::Outside(_) => {
             store(run, place, q);
             reroute_outside(run, e.channel, d.channel);
-            return Outcome::Carried(Seen::Nothing);
         }
-        Far::GivenUp => {
-            store(run, place, q);
-            return Outcome::Carried(Seen::Nothing);
-        }
+        Far::GivenUp => store(run, place, q),
     }
+    Outcome::Carried(Seen::Nothing)
 }
 
 // Fwd "makes the two far ends one channel and leaves its process empty; if one was given up, the other finds its far end given up".
@@ -109,13 +102,10 @@ pub fn forward(
     requires stands_at { StandsAt text.now scratch.now run.old place p }
     ensures { Carries text.now scratch.now run.old run.new result (forwarding (config_in text.now scratch.now run.old) place (process_as text.now scratch.now p) (name_in text.now x) (name_in text.now c)) }
 {
-    let h = p.held;
-    let f = find_end(text, h, x);
-    let Lookup::Found(e) = f else {
+    let Some(e) = find_end(text, p.held, x) else {
         return Outcome::NotOpen;
     };
-    let g = find_end(text, h, c);
-    let Lookup::Found(d) = g else {
+    let Some(d) = find_end(text, p.held, c) else {
         return Outcome::NotOpen;
     };
     let far = far_end(run, d.channel, d.side);

@@ -13,13 +13,13 @@ use run_words::records::{FOLDING, Process, RUNNING, UNLINKED, WAITING};
 fn handler_kind(kind: u32, starts: bool) -> u32
     ensures { result ≡ handler_kind starts kind }
 {
-    if starts {
-        if kind == WAITING {
-            return RUNNING;
-        }
-        return kind;
+    if !starts {
+        FOLDING
+    } else if kind == WAITING {
+        RUNNING
+    } else {
+        kind
     }
-    FOLDING
 }
 
 // The handler of a link, if there is one, starts or folds up.
@@ -33,8 +33,10 @@ pub fn change_handler(text: &[u8], scratch: &[u32], run: &mut [u32], link: u32, 
     }
     let place = wide(link - 1);
     let h = load(run, place);
-    let mut q = h;
-    q.kind = handler_kind(h.kind, starts);
+    let q = Process {
+        kind: handler_kind(h.kind, starts),
+        ..h
+    };
     store(run, place, q);
 }
 
@@ -46,7 +48,9 @@ pub fn start_handler(text: &[u8], scratch: &[u32], run: &mut [u32], place: usize
     ensures { Becomes text.now scratch.now run.old run.new (handler_starts place (process_as text.now scratch.now p) (config_in text.now scratch.now run.old)) }
 {
     change_handler(text, scratch, run, p.link, true);
-    let mut q = p;
-    q.link = UNLINKED;
+    let q = Process {
+        link: UNLINKED,
+        ..p
+    };
     store(run, place, q);
 }

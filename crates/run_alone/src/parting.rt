@@ -18,16 +18,12 @@ fn give_up(text: &[u8], scratch: &[u32], run: &mut [u32], e: End) -> Seen
     requires side_lt_side_radix { e.side < side_radix }
     ensures { GivesUp text.now scratch.now run.old run.new e result }
 {
-    let f = far_end(run, e.channel, e.side);
-    match f {
-        Far::Process(i, k) => return Seen::Nothing,
-        Far::Outside(k) => {
-            let o = outside_at(run, k);
-            let_go(run, e.channel);
-            return Seen::Cancelled(o.number);
-        }
-        Far::GivenUp => return Seen::Nothing,
-    }
+    let Far::Outside(k) = far_end(run, e.channel, e.side) else {
+        return Seen::Nothing;
+    };
+    let o = outside_at(run, k);
+    let_go(run, e.channel);
+    Seen::Cancelled(o.number)
 }
 
 // The process p stands at a place, and has let go of the end e.

@@ -47,8 +47,10 @@ pub fn raise(
     requires process_in { ProcessIn text.now scratch.now pointer }
     ensures { Carries text.now scratch.now run.old run.new result (raising (config_in text.now scratch.now run.old) place (process_as text.now scratch.now p) (process_in text.now scratch.now pointer)) }
 {
-    let mut q = p;
-    q.kind = RUNNING;
-    q.pointer = pointer;
+    let q = Process {
+        kind: RUNNING,
+        pointer,
+        ..p
+    };
     act_as_raise(text, scratch, run, place, q)
 }

@@ -10,12 +10,11 @@ use crate::outcome::Outcome;
 use calculus::answers::Seen;
 use check_contexts::halves::{Half, half_takes, spawn_half};
 use check_contexts::marks::ALL;
-use notation::reading::Found;
 use notation::script::Script;
 use run_words::channels::fresh_channel;
 use run_words::places::insert;
 use run_words::processes::{count, store};
-use run_words::records::{NEW, Process, RUNNING, UNLINKED};
+use run_words::records::{Process, RUNNING, UNLINKED};
 
 // A spawn: where the new name stands, the node of its type, the pointers of its halves.
 #[derive(Clone, Copy)]
@@ -47,16 +46,19 @@ fn spawn_on(
     let first = m.first as usize;
     let taken = half_takes(text, scratch, h, Half::OfSpawn(name, first), ALL);
     let ours = spawn_half(h, taken, m.name, m.node, true, channel);
-    let mut made = NEW;
-    made.kind = RUNNING;
-    made.pointer = m.first;
-    made.link = UNLINKED;
-    made.held = ours;
+    let made = Process {
+        kind: RUNNING,
+        pointer: m.first,
+        link: UNLINKED,
+        held: ours,
+    };
     let theirs = spawn_half(h, taken, m.name, m.node, false, channel);
-    let mut maker = p;
-    maker.kind = RUNNING;
-    maker.pointer = m.second;
-    maker.held = theirs;
+    let maker = Process {
+        kind: RUNNING,
+        pointer: m.second,
+        held: theirs,
+        ..p
+    };
     store(run, place, maker);
     insert(run, place, made);
     Outcome::Carried(Seen::Nothing)
@@ -79,8 +81,7 @@ pub fn spawn(
     if Script::PROCESS_PLACES <= count(run) {
         return Outcome::Lacking;
     }
-    let f = fresh_channel(run);
-    let Found::At(k) = f else {
+    let Some(k) = fresh_channel(run) else {
         return Outcome::Lacking;
     };
     spawn_on(text, scratch, run, place, p, m, k as u32)

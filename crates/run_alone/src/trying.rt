@@ -15,7 +15,7 @@ use notation::script::Script;
 use notation::words::wide;
 use run_words::places::{insert, moved_link};
 use run_words::processes::{count, store};
-use run_words::records::{Held, NEW, Process, RUNNING, WAITING};
+use run_words::records::{Held, Process, RUNNING, WAITING};
 
 // What a half of a try takes.
 fn try_half(text: &[u8], scratch: &[u32], h: Held, pointer: u32) -> Held
@@ -52,17 +52,19 @@ pub fn try_both(
     let ours = try_half(text, scratch, h, first);
     let theirs = try_half(text, scratch, h, second);
     let link = moved_link(p.link, place, true);
-    let mut handler = NEW;
-    handler.kind = WAITING;
-    handler.pointer = second;
-    handler.link = link;
-    handler.held = theirs;
+    let handler = Process {
+        kind: WAITING,
+        pointer: second,
+        link,
+        held: theirs,
+    };
     insert(run, place, handler);
-    let mut q = p;
-    q.kind = RUNNING;
-    q.pointer = first;
-    q.link = (place + 2) as u32;
-    q.held = ours;
+    let q = Process {
+        kind: RUNNING,
+        pointer: first,
+        link: (place + 2) as u32,
+        held: ours,
+    };
     store(run, place, q);
     Outcome::Carried(Seen::Nothing)
 }

@@ -3,25 +3,21 @@ use Prim.Native.Nat.{ℕ, zero, suc, ◌+◌, ◌<◌}
 use mathlib.Core.List.{List, [], ◌∷◌}
 use mathlib.Core.Path.{◌≡◌, refl, sym, ap, ◌∙◌}
 use mathlib.Core.Bool.{Bool, true, false, not}
-use mathlib.Core.Option.{some}
 use native.Mathlib.Omega.{arith}
 use borrow.Author.Tests.{eq-eqb, ne_eqb}
 use lib.Dec.{eqb}
-use lib.ListN.{length, get_elem?}
+use lib.ListN.{length}
 use Rattle.calculus.specs.Named.{every, any_of}
 use Rattle.theory_decision.specs.Lists.{implies}
 use Rattle.theory_decision.specs.Links.{is_link, links_apart}
 use Rattle.run_words.specs.Raw.{RawProcess, link_of}
 use Rattle.run_joints.specs.Tests.{before, any_whole, all_not}
-use Rattle.run_joints.specs.Links.{waits, leads, waits_here, links_to, linked_if_waiting}
+use Rattle.run_joints.specs.Links.{waits, links_to, linked_if_waiting}
 
 pub waits_word : (k : ℕ) → k < 3 → waits k ≡ eqb k 2
 waits_word zero h = refl
 waits_word (suc zero) h = refl
 waits_word (suc (suc k)) h = sym (eq-eqb (suc (suc k)) 2 (omega arith))
-
-pub leads_word : (l : List RawProcess) (w h : ℕ) {p : RawProcess} → w ≡ suc h → get_elem? l h ≡ some p → p.kind < 3 → leads l (link_of w) ≡ eqb p.kind 2
-leads_word l w h {p} e g k = ap (λ (v : ℕ). leads l (link_of v)) e ∙ ap waits_here g ∙ waits_word p.kind k
 
 -- the link of a word is h, or not
 pub link_is : (h w : ℕ) → w ≡ h + 1 → is_link h (link_of w) ≡ true

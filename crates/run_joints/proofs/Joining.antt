@@ -8,7 +8,7 @@ use native.Mathlib.Omega.{arith}
 use native.Mathlib.Numerals.{add-one}
 use borrow.Author.Tests.{eq-eqb, ne_eqb}
 use lib.Dec.{eqb}
-use lib.ListN.{length, get_elem?, get_or, drop}
+use lib.ListN.{get_elem?, get_or, drop}
 use Rattle.calculus.specs.Types.{provided, used}
 use Rattle.calculus.specs.Forest.{Joint}
 use Rattle.theory_decision.specs.Circles.{relabelled, joins, forest?}
@@ -75,11 +75,11 @@ module _ (ws : List ℕ) (i j : ℕ) (a : i < 128) (b : j < 128) where
     each = λ x h. m.inside x (omega arith) h ∙ (λ k. cond (eqb (l.each x h k) (l.each j b k)) (l.each i a k) (l.each x h k));
   }
 
-  pub apart : (new : List ℕ) → (get_or ws i 0 ≡ get_or ws j 0 → ⊥) → (length ws ≡ 128 → OneLabel ws new i j) → Joined ws new ((i, j) ∷ []) true
+  pub apart : (new : List ℕ) → (get_or ws i 0 ≡ get_or ws j 0 → ⊥) → OneLabel ws new i j → Joined ws new ((i, j) ∷ []) true
   apart new n m = record {
     is = λ label l. (
       relabelled (label i) (label j) label,
-      joins_one new label l (m l.long),
+      joins_one new label l m,
       λ K. joins_first label i j K
           (ne_eqb (label i) (label j) (λ e. n (l.each i a ∙ e ∙ sym (l.each j b)))),
     );

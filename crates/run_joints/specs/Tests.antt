@@ -3,7 +3,7 @@ use Prim.Native.Nat.{ℕ, zero, suc, ◌+◌, ◌≤◌}
 use mathlib.Core.List.{List, [], ◌∷◌, map}
 use Rattle.std.specs.Prelude.{◌≡◌, Bool, not, length, drop}
 use Rattle.std.proofs.Math.Path.{refl, ap}
-use Rattle.std.proofs.Common.{sym, ◌∙◌, arith, add-one, drop_of_length-le}
+use Rattle.std.proofs.Common.{sym, ◌∙◌, add-one, drop_of_length-le}
 use Rattle.std.proofs.Math.Bool.{true, false, cond}
 use Rattle.std.proofs.Math.Option.{Option, some, none}
 use Rattle.std.proofs.Math.ListN.{get_elem?}
@@ -91,44 +91,39 @@ module _ {X : Type 0} where
     pub any_on : f x ≡ false → any_of f (before n l) ≡ any_of f (before k l)
     any_on t = ap (any_of f) (before_more l k n p e) ∙ ap (λ b. cond b true (any_of f (before k l))) t
 
-  -- a loop over the n elements of a list has come to position i: what is left of the test
-  pub record Each (f : ℕ → X → Bool) (l : List X) (n i : ℕ) : Type 0 where
-    pub many : n ≡ length l
+  -- a loop over a list has come to position i: what is left of the test
+  pub record Each (f : ℕ → X → Bool) (l : List X) (i : ℕ) : Type 0 where
     pub rest : all_from f 0 l ≡ all_from f i (drop i l)
 
-  pub record Pairs (f : X → X → Bool) (l : List X) (n i : ℕ) : Type 0 where
-    pub many : n ≡ length l
+  pub record Pairs (f : X → X → Bool) (l : List X) (i : ℕ) : Type 0 where
     pub rest : pairwise f [] l ≡ pairwise f (before i l) (drop i l)
 
-  pub nothing_left : (l : List X) (n i : ℕ) → n ≡ length l → n ≤ i → drop i l ≡ []
-  nothing_left l n i e h = let k : length l ≤ i = omega arith in drop_of_length-le l k
+  pub each_start : {f : ℕ → X → Bool} {l : List X} → Each f l 0
+  each_start = record { rest = refl }
 
-  pub each_start : {f : ℕ → X → Bool} {l : List X} {n : ℕ} → n ≡ length l → Each f l n 0
-  each_start e = record { many = e; rest = refl }
-
-  module _ {f : ℕ → X → Bool} {l : List X} {n i : ℕ} where
-    each_turn : {x : X} {t : Bool} → Each f l n i → get_elem? l i ≡ some x → f i x ≡ t → all_from f 0 l ≡ cond t (all_from f (i + 1) (drop (i + 1) l)) false
+  module _ {f : ℕ → X → Bool} {l : List X} {i : ℕ} where
+    each_turn : {x : X} {t : Bool} → Each f l i → get_elem? l i ≡ some x → f i x ≡ t → all_from f 0 l ≡ cond t (all_from f (i + 1) (drop (i + 1) l)) false
     unfolding all_from
     each_turn {x} r e t =
         r.rest ∙ ap (all_from f i) (drop_at l i e)
         ∙ ap (λ m. cond (f i x) (all_from f m (drop m l)) false) (sym (add-one i))
         ∙ ap (λ b. cond b (all_from f (i + 1) (drop (i + 1) l)) false) t
 
-    pub each_passed : {x : X} → Each f l n i → get_elem? l i ≡ some x → f i x ≡ true → Each f l n (i + 1)
-    each_passed r e t = record { many = r.many; rest = each_turn r e t }
+    pub each_passed : {x : X} → Each f l i → get_elem? l i ≡ some x → f i x ≡ true → Each f l (i + 1)
+    each_passed r e t = record { rest = each_turn r e t }
 
-    pub each_failed : {x : X} → Each f l n i → get_elem? l i ≡ some x → f i x ≡ false → all_from f 0 l ≡ false
+    pub each_failed : {x : X} → Each f l i → get_elem? l i ≡ some x → f i x ≡ false → all_from f 0 l ≡ false
     each_failed r e t = each_turn r e t
 
-    pub each_end : Each f l n i → n ≤ i → all_from f 0 l ≡ true
+    pub each_end : Each f l i → length l ≤ i → all_from f 0 l ≡ true
     unfolding all_from
-    each_end r h = r.rest ∙ ap (all_from f i) (nothing_left l n i r.many h)
+    each_end r h = r.rest ∙ ap (all_from f i) (drop_of_length-le l h)
 
-  pub pairs_start : {f : X → X → Bool} {l : List X} {n : ℕ} → n ≡ length l → Pairs f l n 0
-  pairs_start {f} {l} e = record { many = e; rest = ap (λ s. pairwise f s l) (sym (before_none l)) }
+  pub pairs_start : {f : X → X → Bool} {l : List X} → Pairs f l 0
+  pairs_start {f} {l} = record { rest = ap (λ s. pairwise f s l) (sym (before_none l)) }
 
-  module _ {f : X → X → Bool} {l : List X} {n i : ℕ} where
-    pairs_turn : {x : X} {t : Bool} → Pairs f l n i → get_elem? l i ≡ some x → every (f x) (before i l) ≡ t
+  module _ {f : X → X → Bool} {l : List X} {i : ℕ} where
+    pairs_turn : {x : X} {t : Bool} → Pairs f l i → get_elem? l i ≡ some x → every (f x) (before i l) ≡ t
         → pairwise f [] l ≡ cond t (pairwise f (before (i + 1) l) (drop (i + 1) l)) false
     unfolding pairwise
     pairs_turn {x} r e t =
@@ -137,12 +132,12 @@ module _ {X : Type 0} where
         ∙ ap (λ m. cond (every (f x) (before i l)) (pairwise f (before m l) (drop m l)) false) (sym (add-one i))
         ∙ ap (λ b. cond b (pairwise f (before (i + 1) l) (drop (i + 1) l)) false) t
 
-    pub pairs_passed : {x : X} → Pairs f l n i → get_elem? l i ≡ some x → every (f x) (before i l) ≡ true → Pairs f l n (i + 1)
-    pairs_passed r e t = record { many = r.many; rest = pairs_turn r e t }
+    pub pairs_passed : {x : X} → Pairs f l i → get_elem? l i ≡ some x → every (f x) (before i l) ≡ true → Pairs f l (i + 1)
+    pairs_passed r e t = record { rest = pairs_turn r e t }
 
-    pub pairs_failed : {x : X} → Pairs f l n i → get_elem? l i ≡ some x → every (f x) (before i l) ≡ false → pairwise f [] l ≡ false
+    pub pairs_failed : {x : X} → Pairs f l i → get_elem? l i ≡ some x → every (f x) (before i l) ≡ false → pairwise f [] l ≡ false
     pairs_failed r e t = pairs_turn r e t
 
-    pub pairs_end : Pairs f l n i → n ≤ i → pairwise f [] l ≡ true
+    pub pairs_end : Pairs f l i → length l ≤ i → pairwise f [] l ≡ true
     unfolding pairwise
-    pairs_end r h = r.rest ∙ ap (pairwise f (before i l)) (nothing_left l n i r.many h)
+    pairs_end r h = r.rest ∙ ap (pairwise f (before i l)) (drop_of_length-le l h)

@@ -1,5 +1,5 @@
 // Whether joints close a circle: places that are joined get one label, so a joint of places with one label closes a circle.
-ghost use Rattle.std.specs.Prelude.{◌≡◌, ◌≤◌, ◌<◌, [], ◌∷◌, cond, eqb, length, get_or};
+ghost use Rattle.std.specs.Prelude.{◌≡◌, ◌≤◌, ◌<◌, [], ◌∷◌, length, get_or};
 ghost use Rattle.notation.specs.Limits.{run_words, held_limit, process_places};
 ghost use Rattle.calculus.specs.Forest.{link_joint};
 ghost use Rattle.theory_decision.specs.Circles.{relabelled};
@@ -20,30 +20,20 @@ fn own_labels() -> [u32; Script::PROCESS_PLACES]
     ensures { Labelled result (λ x. x) }
 {
     let mut labels = [0u32; Script::PROCESS_PLACES];
-    let mut k: usize = 0;
-    while k < Script::PROCESS_PLACES {
+    for k in 0..Script::PROCESS_PLACES {
         labels[k] = k as u32;
-        k += 1;
     }
     labels
 }
 
-// A label once b has become a.
-fn renamed(label: u32, a: u32, b: u32) -> u32
-    ensures { result ≡ cond (eqb label b) a label }
-{
-    if label == b { a } else { label }
-}
-
 // The label b becomes a.
 fn relabel(labels: &mut [u32; Script::PROCESS_PLACES], a: u32, b: u32)
-    ensures { length labels.old ≡ process_places → Moved labels.old labels.new 0 process_places (relabelled a b (λ x. get_or labels.old x 0)) }
+    ensures { Moved labels.old labels.new 0 process_places (relabelled a b (λ x. get_or labels.old x 0)) }
 {
-    let mut k: usize = 0;
-    while k < Script::PROCESS_PLACES {
-        let label = renamed(labels[k], a, b);
-        labels[k] = label;
-        k += 1;
+    for label in labels.iter_mut() {
+        if *label == b {
+            *label = a;
+        }
     }
 }
 
@@ -71,11 +61,9 @@ fn join_end(labels: &mut [u32; Script::PROCESS_PLACES], run: &[u32], i: usize, e
     if e.side == USED {
         return true;
     }
-    let f = far_end(run, e.channel, PROVIDED);
-    match f {
+    match far_end(run, e.channel, PROVIDED) {
         Far::Process(j, _) => join(labels, i, j),
-        Far::Outside(_) => true,
-        Far::GivenUp => true,
+        Far::Outside(_) | Far::GivenUp => true,
     }
 }
 
@@ -86,14 +74,11 @@ fn join_held(labels: &mut [u32; Script::PROCESS_PLACES], run: &[u32], i: usize, 
     requires i_lt_process_places { (i < process_places) × (h.count ≤ held_limit) }
     ensures { Joined labels.old labels.new (held_joints (raw_in run.now) i (held_in h)) result }
 {
-    let n = h.count;
-    let mut k: usize = 0;
-    while k < n {
+    for k in 0..h.count {
         let e = end_at(h, k);
         if !join_end(labels, run, i, e) {
             return false;
         }
-        k += 1;
     }
     true
 }
@@ -121,11 +106,7 @@ fn join_process(
     requires i_lt_process_places { (i < process_places) × (p.link ≤ process_places) × (p.held.count ≤ held_limit) }
     ensures { Joined labels.old labels.new (process_joints (raw_in run.now) i (process_in p)) result }
 {
-    let h = p.held;
-    if !join_held(labels, run, i, h) {
-        return false;
-    }
-    join_link(labels, i, p.link)
+    join_held(labels, run, i, p.held) && join_link(labels, i, p.link)
 }
 
 // Joins the places, each by its process.
@@ -134,14 +115,11 @@ fn join_all(labels: &mut [u32; Script::PROCESS_PLACES], run: &[u32]) -> bool
     requires bounded { Bounded (raw_in run.now) }
     ensures { Joined labels.old labels.new (joints_from (raw_in run.now) 0 (raw_in run.now).processes) result }
 {
-    let n = count(run);
-    let mut i: usize = 0;
-    while i < n {
+    for i in 0..count(run) {
         let p = load(run, i);
         if !join_process(labels, run, i, p) {
             return false;
         }
-        i += 1;
     }
     true
 }

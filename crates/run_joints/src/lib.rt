@@ -20,20 +20,10 @@ pub fn well_joined(run: &[u32]) -> bool
     requires bounded { Bounded (raw_in run.now) }
     ensures { Answers result well_joined (raw_in run.now) }
 {
-    if !links_lead(run) {
-        return false;
-    }
-    if !handlers_linked(run) {
-        return false;
-    }
-    if !linked_once(run) {
-        return false;
-    }
-    if !forest(run) {
-        return false;
-    }
-    if !numbers_rise(run) {
-        return false;
-    }
-    numbers_given(run)
+    links_lead(run)
+        && handlers_linked(run)
+        && linked_once(run)
+        && forest(run)
+        && numbers_rise(run)
+        && numbers_given(run)
 }

@@ -19,11 +19,7 @@ fn link_leads(run: &[u32], link: u32) -> bool
     requires link_in_bounds { link ≤ length (raw_in run.now).processes }
     ensures { leads (raw_in run.now).processes (link_of link) ≡ result }
 {
-    if link == UNLINKED {
-        return true;
-    }
-    let p = load(run, wide(link) - 1);
-    p.kind == WAITING
+    link == UNLINKED || load(run, wide(link) - 1).kind == WAITING
 }
 
 // Whether every link leads to a waiting handler.
@@ -32,14 +28,11 @@ pub(crate) fn links_lead(run: &[u32]) -> bool
     requires bounded { Bounded (raw_in run.now) }
     ensures { Answers result links_lead (raw_in run.now) }
 {
-    let n = count(run);
-    let mut i: usize = 0;
-    while i < n {
+    for i in 0..count(run) {
         let p = load(run, i);
         if !link_leads(run, p.link) {
             return false;
         }
-        i += 1;
     }
     true
 }
@@ -51,9 +44,7 @@ fn linked_before(run: &[u32], h: usize, n: usize) -> bool
     requires h_lt_process_places { (h < process_places) × (n ≤ length (raw_in run.now).processes) }
     ensures { any_of (links_to h) (before n (raw_in run.now).processes) ≡ result }
 {
-    let mut i = n;
-    while 0 < i {
-        i -= 1;
+    for i in (0..n).rev() {
         let p = load(run, i);
         if wide(p.link) == h + 1 {
             return true;
@@ -69,11 +60,7 @@ fn handler_linked(run: &[u32], i: usize, kind: u32) -> bool
     requires i_lt_process_places { (i < process_places) × (kind < 3) }
     ensures { linked_if_waiting (raw_in run.now).processes i kind ≡ result }
 {
-    if kind != WAITING {
-        return true;
-    }
-    let n = count(run);
-    linked_before(run, i, n)
+    kind != WAITING || linked_before(run, i, count(run))
 }
 
 // Whether every waiting handler is linked.
@@ -82,14 +69,11 @@ pub(crate) fn handlers_linked(run: &[u32]) -> bool
     requires bounded { Bounded (raw_in run.now) }
     ensures { Answers result handlers_linked (raw_in run.now) }
 {
-    let n = count(run);
-    let mut i: usize = 0;
-    while i < n {
+    for i in 0..count(run) {
         let p = load(run, i);
         if !handler_linked(run, i, p.kind) {
             return false;
         }
-        i += 1;
     }
     true
 }
@@ -101,10 +85,7 @@ fn link_new(run: &[u32], link: u32, n: usize) -> bool
     requires link_le_process_places { (link ≤ process_places) × (n ≤ length (raw_in run.now).processes) }
     ensures { every (λ (q : RawProcess). links_apart (link_of link) q.link) (before n (raw_in run.now).processes) ≡ result }
 {
-    if link == UNLINKED {
-        return true;
-    }
-    !linked_before(run, wide(link) - 1, n)
+    link == UNLINKED || !linked_before(run, wide(link) - 1, n)
 }
 
 // Whether no two processes have one link.
@@ -113,14 +94,11 @@ pub(crate) fn linked_once(run: &[u32]) -> bool
     requires bounded { Bounded (raw_in run.now) }
     ensures { Answers result linked_once (raw_in run.now) }
 {
-    let n = count(run);
-    let mut i: usize = 0;
-    while i < n {
+    for i in 0..count(run) {
         let p = load(run, i);
         if !link_new(run, p.link, i) {
             return false;
         }
-        i += 1;
     }
     true
 }

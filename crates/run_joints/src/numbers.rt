@@ -13,16 +13,13 @@ pub(crate) fn numbers_rise(run: &[u32]) -> bool
     requires bounded { Bounded (raw_in run.now) }
     ensures { Answers result numbers_rise (raw_in run.now) }
 {
-    let n = outside_count(run);
     let mut low: u32 = 0;
-    let mut k: usize = 0;
-    while k < n {
+    for k in 0..outside_count(run) {
         let o = outside_at(run, k);
         if o.number < low {
             return false;
         }
         low = o.number + 1;
-        k += 1;
     }
     true
 }
@@ -33,15 +30,12 @@ pub(crate) fn numbers_given(run: &[u32]) -> bool
     requires bounded { Bounded (raw_in run.now) }
     ensures { Answers result numbers_given (raw_in run.now) }
 {
-    let n = outside_count(run);
     let g = given(run);
-    let mut k: usize = 0;
-    while k < n {
+    for k in 0..outside_count(run) {
         let o = outside_at(run, k);
         if g <= o.number {
             return false;
         }
-        k += 1;
     }
     true
 }

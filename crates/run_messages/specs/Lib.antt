@@ -1,5 +1,6 @@
 pub mod Kinds
 pub mod Messages
+pub mod Parties
 pub mod Sending
 pub mod Meeting
 pub mod Outward

@@ -1,5 +1,6 @@
 -- "A matching send and recv on one channel step together": a process that receives, and what its sender's message does to it.
 use Prim.Native.Nat.{◌+◌, ◌<◌, ◌≤◌, suc, zero, ℕ}
+use Rattle.std.specs.Prelude.{Option as CodeOption, Some, None}
 use Rattle.calculus.specs.Configuration.{Config, End, Holder, Process, end, goes_on, halt, replaced}
 use Rattle.calculus.specs.Named.{lookup}
 use Rattle.calculus.specs.Program.{Program}
@@ -7,13 +8,11 @@ use Rattle.calculus.specs.Steps.{Message, Outcome, Received, Turn, after_receive
 use Rattle.calculus.specs.Types.{passing, unfolded}
 use Rattle.check_contexts.specs.Halves.{append-nil}
 use Rattle.check_contexts.specs.Held.{Brings, Drops, EndIn, FoundIn, HeldIn, Sees, channels_of, end_found}
-use Rattle.check_contexts.specs.declared.held.Lookup.{Lookup}
 use Rattle.check_types.specs.Branches.{BranchIs}
 use Rattle.notation.specs.Bytes.{same}
 use Rattle.notation.specs.Reader.{label_in, name_in}
 use Rattle.notation.specs.Token.{name_at}
 use Rattle.notation.specs.Tree.{Name}
-use Rattle.notation.specs.declared.reading.Found.{Found}
 use Rattle.notation.specs.declared.reading.TermNode.{TermNode}
 use Rattle.read_tables.specs.Decode.{process_in}
 use Rattle.read_tables.specs.Program.{plain_in, program_in}
@@ -27,7 +26,7 @@ use Rattle.run_alone.specs.Run.{Becomes, Carries, ProcessOf, RunOf, StandsAt, co
 use Rattle.run_alone.specs.declared.outcome.Outcome.TheVariants.{NotOpen}
 use Rattle.run_alone.specs.declared.outcome.Outcome.{Outcome as OutcomeWords}
 use Rattle.run_messages.specs.Messages.{Heard, MovesOn, SendNode, TypeAfter, heard, message, message_by, parts_by, turn_by}
-use Rattle.run_messages.specs.declared.messages.Receiver.{Receiver}
+use Rattle.run_messages.specs.declared.messages.Party.{Party}
 use Rattle.run_messages.specs.declared.messages.Sending.{Sending}
 use Rattle.run_words.specs.Raw.{Bounded, link_of, raw_in, side_of}
 use Rattle.run_words.specs.Values.{Changed, end_in}
@@ -40,18 +39,16 @@ use Rattle.std.proofs.Math.Option.{Option, map, none, some}
 use Rattle.std.proofs.Math.Path.{refl}
 use native.Mathlib.Omega.{arith}
 use Rattle.calculus.specs.Configuration as calculus
-use Rattle.check_contexts.specs.declared.held.Lookup.TheVariants as lookups
-use Rattle.notation.specs.declared.reading.Found.TheVariants as found
 use Rattle.run_words.specs.Operations as raw
 use Rattle.run_words.specs.Values as values
 use Rattle.run_messages.specs.Sending.{sending_by}
 
 -- a process that receives stands at its place, and the numbers of its term are those of the text
-pub record ReceiverIn (s w ws : List ℕ) (to : Receiver) : Type 0 where
+pub record ReceiverIn (s w ws : List ℕ) (to : Party) : Type 0 where
   pub stands : StandsAt s w ws to.place to.process
   pub parts : parts_by s w to.term to.term.kind
 
-pub parts_at : {s w ws : List ℕ} {to : Receiver} → ReceiverIn s w ws to → {k : ℕ} → to.term.kind ≡ k → parts_by s w to.term k
+pub parts_at : {s w ws : List ℕ} {to : Party} → ReceiverIn s w ws to → {k : ℕ} → to.term.kind ≡ k → parts_by s w to.term k
 parts_at {s} {w} {to = to} r e = subst (parts_by s w to.term) e r.parts
 
 -- ── two processes change
@@ -73,22 +70,22 @@ module _ (s w old mid : List ℕ) (t : RunOf s w old) (i j : ℕ) (q r : Process
   both_set_lem new d k = then (replaced j (process_as s w r)) first_set (stored s w mid new first_set.run j r second_of d k)
 
 -- ── with the end that was passed, if it was found and the receiver's own was
-pub record BringsOver (s w : List ℕ) (h : Held) (own passed : Lookup) (at : ℕ) (r : Held) : Type 0 where
+pub record BringsOver (s w : List ℕ) (h : Held) (own passed : CodeOption EndWords) (at : ℕ) (r : Held) : Type 0 where
   pub is : channels_of s w r ≡ channels_of s w h ++ bound (program_in s w) (name_at s at) (end_found s w own) (end_found s w passed)
   pub fits : HeldIn s w r
 
-module _ (s w : List ℕ) (h : Held) (t : HeldIn s w h) (own passed : Lookup) (at : ℕ) where
+module _ (s w : List ℕ) (h : Held) (t : HeldIn s w h) (own passed : CodeOption EndWords) (at : ℕ) where
   brings_none : bound (program_in s w) (name_at s at) (end_found s w own) (end_found s w passed) ≡ [] → BringsOver s w h own passed at h
   brings_none e = record { is = sym (ap (λ l. channels_of s w h ++ l) e ∙ append-nil (channels_of s w h)); fits = t }
 
-  pub brings_unheld : own ≡ lookups.Nothing → BringsOver s w h own passed at h
-  brings_unheld e = brings_none (ap (λ (f : Lookup). bound (program_in s w) (name_at s at) (end_found s w f) (end_found s w passed)) e)
+  pub brings_unheld : own ≡ None → BringsOver s w h own passed at h
+  brings_unheld e = brings_none (ap (λ (f : CodeOption EndWords). bound (program_in s w) (name_at s at) (end_found s w f) (end_found s w passed)) e)
 
-  module _ {e : EndWords} (z : own ≡ lookups.Found e) where
-    pub brings_nothing : passed ≡ lookups.Nothing → BringsOver s w h own passed at h
+  module _ {e : EndWords} (z : own ≡ Some e) where
+    pub brings_nothing : passed ≡ None → BringsOver s w h own passed at h
     brings_nothing y = brings_none λ j. bound (program_in s w) (name_at s at) (end_found s w (z j)) (end_found s w (y j))
 
-    pub brings_over : {d : EndWords} {node : ℕ} {r : Held} → passed ≡ lookups.Found d → TypeAfter s w (passed_type (plain_in s w d.node) (passing (unfolded (program_in s w).types (plain_in s w e.node)))) node → Brings h at d.side node d.channel r
+    pub brings_over : {d : EndWords} {node : ℕ} {r : Held} → passed ≡ Some d → TypeAfter s w (passed_type (plain_in s w d.node) (passing (unfolded (program_in s w).types (plain_in s w e.node)))) node → Brings h at d.side node d.channel r
         → BringsOver s w h own passed at r
     brings_over {d} y u b = record {
       is = b.is s w ∙ ap (λ A. channels_of s w h ++ ((name_at s at, end (side_of d.side) d.channel A) ∷ [])) u.is
@@ -96,7 +93,7 @@ module _ (s w : List ℕ) (h : Held) (t : HeldIn s w h) (own passed : Lookup) (a
       fits = b.fits s w u.type t;
     }
 
-pub found_in : {s w : List ℕ} {f : Lookup} {d : EndWords} → f ≡ lookups.Found d → FoundIn s w f → EndIn s w (end_in d) × (d.side < 2)
+pub found_in : {s w : List ℕ} {f : CodeOption EndWords} {d : EndWords} → f ≡ Some d → FoundIn s w f → EndIn s w (end_in d) × (d.side < 2)
 found_in {s} {w} e o = subst (FoundIn s w) e o
 
 -- ── the label of a send is left out: the sender goes on where the receiver has a link, else it stays
@@ -128,7 +125,7 @@ module _ (s w old mid : List ℕ) (i : ℕ) (q : Process) where
   caught_on new o (some h) j r b c = record { is = (c.is.0, then (handler_starts j r) b c.is.1) }
 
 -- ── the receiver afterwards
-module _ (s w old : List ℕ) (sent : Sending) (to : Receiver) where
+module _ (s w old : List ℕ) (sent : Sending) (to : Party) where
   abbrev pub both_by : Received → Outcome
   both_by o = both_to (config_in s w old) sent.place (process_as s w sent.after) to.place o
 
@@ -155,26 +152,26 @@ module _ (s w old : List ℕ) (sent : Sending) (to : Receiver) where
     pub hears_close : Drops s to.process.held to.name h → Carries s w old new o (both_by (takes_close (on_close (process_in s w pointer)) (name_at s to.name) receiver))
     hears_close d = with_held _ (d.is w)
 
-    pub hears_channel : {name : ℕ} {f g : Lookup} {m : Held} → sent.term.kind ≡ send_channel_kind → Sees s sent.before.held sent.term.second f → Sees s to.process.held to.name g
+    pub hears_channel : {name : ℕ} {f g : CodeOption EndWords} {m : Held} → sent.term.kind ≡ send_channel_kind → Sees s sent.before.held sent.term.second f → Sees s to.process.held to.name g
         → MovesOn s w to.process.held sent.term to.name m → BringsOver s w m g f name h
         → Carries s w old new o (both_by (takes_channel (program_in s w) (name_in s sent.term.second) (on_channel (name_in s name) (process_in s w pointer)) (name_at s to.name) (lookup (name_at s sent.term.second) (channels_of s w sent.before.held)) receiver))
     hears_channel {name} z f g c d =
         with_held _ (d.is ∙ λ j. (c.is ∙ ap over z) j ++ bound (program_in s w) (name_at s name) (sym (g.is w) j) (sym (f.is w) j))
 
   -- a label: by its branch, with what the receiver holds now
-  module _ {e n : ℕ} {k : Found} (h : Held) (y : sent.term.kind ≡ send_label_kind) (f : BranchIs s w sent.term.second e n k) (c : MovesOn s w to.process.held sent.term to.name h) where
+  module _ {e n : ℕ} {k : CodeOption ℕ} (h : Held) (y : sent.term.kind ≡ send_label_kind) (f : BranchIs s w sent.term.second e n k) (c : MovesOn s w to.process.held sent.term to.name h) where
     abbrev label_taken : Received
     label_taken = takes_label (program_in s w) (label_in s sent.term.second) (on_label (branches_in s w e n)) (name_at s to.name) receiver
 
-    by_branch_lem : (r : Found) → k ≡ r → by_branch (map (λ x. process_in s w x) (place_of r)) receiver (channels_of s w h) ≡ label_taken
+    by_branch_lem : (r : CodeOption ℕ) → k ≡ r → by_branch (map (λ x. process_in s w x) (place_of r)) receiver (channels_of s w h) ≡ label_taken
     by_branch_lem r z = sym λ j. by_branch ((f.is ∙ ap (λ v. map (λ x. process_in s w x) (place_of v)) z) j) receiver (sym (c.is ∙ ap over y) j)
 
     module _ {new : List ℕ} {o : OutcomeWords} where
-      pub hears_label : (pointer : ℕ) → k ≡ found.At pointer → Carries s w old new o (both_on pointer h) → Carries s w old new o (both_by label_taken)
-      hears_label pointer z b = subst (λ v. Carries s w old new o (both_by v)) (by_branch_lem (found.At pointer) z) b
+      pub hears_label : (pointer : ℕ) → k ≡ Some pointer → Carries s w old new o (both_on pointer h) → Carries s w old new o (both_by label_taken)
+      hears_label pointer z b = subst (λ v. Carries s w old new o (both_by v)) (by_branch_lem (Some pointer) z) b
 
-      pub hears_nothing : k ≡ found.Nothing → Carries s w old new o (left_out h) → Carries s w old new o (both_by label_taken)
-      hears_nothing z b = subst (λ v. Carries s w old new o (both_by v)) (by_branch_lem found.Nothing z) b
+      pub hears_nothing : k ≡ None → Carries s w old new o (left_out h) → Carries s w old new o (both_by label_taken)
+      hears_nothing z b = subst (λ v. Carries s w old new o (both_by v)) (by_branch_lem None z) b
 
 -- a process that receives on the channel of the message, whatever its name for it
 abbrev pub met_by : Program → Config → ℕ → Process → Process → Message → Holder → Turn → Outcome
@@ -240,16 +237,16 @@ module _ (s w old : List ℕ) (i : ℕ) (q q' : Process) (n : TermNode) (e : End
 
 -- where it receives
 module _ (s w old : List ℕ) (sent : Sending) where
-  abbrev pub holder_by : Receiver → Holder
+  abbrev pub holder_by : Party → Holder
   holder_by to = record { place = to.place; process = process_as s w to.process; name = name_at s to.name }
 
-  abbrev pub heard_by : Receiver → Outcome
+  abbrev pub heard_by : Party → Outcome
   heard_by to = met_by (program_in s w) (config_in s w old) sent.place (process_as s w sent.before) (process_as s w sent.after) (message s sent.term) (holder_by to) (turn_by s w to.term to.term.kind)
 
-  abbrev kinds_by : Receiver → ℕ → ℕ → Outcome
+  abbrev kinds_by : Party → ℕ → ℕ → Outcome
   kinds_by to k l = met_by (program_in s w) (config_in s w old) sent.place (process_as s w sent.before) (process_as s w sent.after) (message_by s sent.term.second k) (holder_by to) (turn_by s w to.term l)
 
-  module _ (to : Receiver) (f : far_of s w old sent.over ≡ calculus.at_process (holder_by to)) (g : Heard s w to.name (doing_as s w to.process.kind to.process.pointer) to.term) where
+  module _ (to : Party) (f : far_of s w old sent.over ≡ calculus.at_process (holder_by to)) (g : Heard s w to.name (doing_as s w to.process.kind to.process.pointer) to.term) where
     meets_as : (sending_by s w old sent) ≡ heard_by to
     meets_as = over_as s w old sent.place (process_as s w sent.before) (process_as s w sent.after) sent.term sent.over (holder_by to) to.term f g.is
 
@@ -260,7 +257,7 @@ module _ (s w old : List ℕ) (sent : Sending) where
     meets {new} {o} c = subst (Carries s w old new o) (sym meets_as) c
 
   -- the receiver's node is of the kind that the message wants
-  module _ (to : Receiver) {new : List ℕ} {o : OutcomeWords} where
+  module _ (to : Party) {new : List ℕ} {o : OutcomeWords} where
     kinds : (k l : ℕ) → sent.term.kind ≡ k → to.term.kind ≡ l → Carries s w old new o (kinds_by to k l) → Carries s w old new o (heard_by to)
     kinds k l a b c = subst (λ m. Carries s w old new o (kinds_by to m to.term.kind)) (sym a) (subst (λ m. Carries s w old new o (kinds_by to k m)) (sym b) c)
 

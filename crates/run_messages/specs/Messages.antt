@@ -1,5 +1,7 @@
 -- What goes over a channel, by the numbers of a term's node.
 use Rattle.std.specs.Prelude.{ℕ, zero, suc, ◌+◌, ◌≤◌, ◌<◌, ◌≡◌, refl, List, [], ◌∷◌, Bool, true, false, cond, length}
+use Rattle.std.specs.Prelude.{Option as CodeOption, Some, None}
+use Rattle.std.specs.Bool.{then_some}
 use Rattle.std.proofs.Common.{sym, ◌∙◌, arith}
 use Rattle.std.proofs.Math.Path.{ap, subst}
 use Rattle.std.proofs.Math.Option.{Option, some, none, map, get_or, none-ne-some}
@@ -10,11 +12,9 @@ use Rattle.notation.specs.Reader.{name_in, label_in}
 use Rattle.notation.specs.Tree.{Name, Located, Ty, Proc, send_label}
 use Rattle.notation.specs.Tables.{term_node}
 use Rattle.notation.specs.declared.reading.TermNode.{TermNode}
-use Rattle.notation.specs.declared.reading.Found.{Found}
-use Rattle.notation.specs.declared.reading.Found.TheVariants.{At, Nothing}
 use Rattle.calculus.specs.Named.{lookup, changed}
 use Rattle.calculus.specs.Types.{unfolded, passing, choosing}
-use Rattle.calculus.specs.Configuration.{End, Doing, running}
+use Rattle.calculus.specs.Configuration.{End, Doing}
 use Rattle.calculus.specs.Steps.{Message, closing, passes, chooses, on_close, on_channel, on_label, Turn, sends, receives, alone, turn, turn_of, after_passing, after_choosing, after_message, passed_type, onward, after_send}
 use Rattle.calculus.specs.Configuration.{retyped_end}
 use Rattle.theory_ends.specs.Onward.{onward_is}
@@ -28,18 +28,14 @@ use Rattle.read_tables.specs.Whole.{Tables}
 use Rattle.check_types.specs.Acting.{StandsFor, PassingOf, passing_of, passed_in, ChoosingOf, choosing_of, chosen_in}
 use Rattle.check_types.specs.Labels.{LeadsTo}
 use Rattle.check_types.specs.declared.messages.Passing.{Passing}
-use Rattle.check_types.specs.declared.messages.Passing.TheVariants.{Passes}
-use Rattle.check_types.specs.declared.messages.Passing.TheVariants as NoPassing
+use Rattle.check_types.specs.Acting.{passing_words}
 use Rattle.check_types.specs.declared.messages.Choosing.{Choosing}
-use Rattle.check_types.specs.declared.messages.Choosing.TheVariants.{Chooses}
-use Rattle.check_types.specs.declared.messages.Choosing.TheVariants as NoChoosing
+use Rattle.check_types.specs.Acting.{choosing_words}
 use Rattle.run_words.specs.declared.records.End.{End as EndWords}
 use Rattle.run_words.specs.declared.records.Held.{Held}
 use Rattle.check_contexts.specs.Held.{channels_of, HeldIn, end_found, Sees, Drops, Retypes}
-use Rattle.check_contexts.specs.declared.held.Lookup.{Lookup}
-use Rattle.check_contexts.specs.declared.held.Lookup.TheVariants as lookups
 use Rattle.run_words.specs.Raw.{pointer_limit, running_kind, folding_kind}
-use Rattle.run_messages.specs.Kinds.{send_channel_kind, send_label_kind, send_unit_kind}
+use Rattle.run_messages.specs.Kinds.{idle_kind, send_channel_kind, send_label_kind, send_unit_kind}
 use Rattle.run_alone.specs.Run.{doing_as}
 use Rattle.run_alone.specs.Changes.{channels_many}
 
@@ -68,52 +64,52 @@ module _ (s w : List ℕ) (t : Tables s w) (i j : ℕ) (a : TypeIn s w i) (f : S
   abbrev stood : Ty Name
   stood = unfolded (program_in s w).types (plain_in s w i)
 
-  module _ (q : Passing) (o : PassingOf w j q) where
+  module _ (q : CodeOption Passing) (o : PassingOf w j q) where
     passing_is : passing stood ≡ passing_of s w q
     passing_is = ap passing (sym f.is) ∙ (o.says s t f.type).is
 
-    pub passing_after : (u v x y : ℕ) → q ≡ Passes u v x y → TypeAfter s w (after_passing (plain_in s w i) (passing stood)) y
+    pub passing_after : (u v x y : ℕ) → q ≡ passing_words u v x y → TypeAfter s w (after_passing (plain_in s w i) (passing stood)) y
     passing_after u v x y e = record {
       is = sym (ap (after_passing (plain_in s w i)) (passing_is ∙ ap (passing_of s w) e));
       type = (subst (passed_in s w) e (o.says s t f.type).parts).1;
     }
 
-    pub passing_nothing : q ≡ NoPassing.Nothing → TypeAfter s w (after_passing (plain_in s w i) (passing stood)) i
+    pub passing_nothing : q ≡ None → TypeAfter s w (after_passing (plain_in s w i) (passing stood)) i
     passing_nothing e = record { is = sym (ap (after_passing (plain_in s w i)) (passing_is ∙ ap (passing_of s w) e)); type = a }
 
     -- what comes over it
     module _ (k : ℕ) where
-      pub passing_what : (u v x y : ℕ) → q ≡ Passes u v x y → TypeAfter s w (passed_type (plain_in s w k) (passing stood)) x
+      pub passing_what : (u v x y : ℕ) → q ≡ passing_words u v x y → TypeAfter s w (passed_type (plain_in s w k) (passing stood)) x
       passing_what u v x y e = record {
         is = sym (ap (passed_type (plain_in s w k)) (passing_is ∙ ap (passing_of s w) e));
         type = (subst (passed_in s w) e (o.says s t f.type).parts).0;
       }
 
-      pub passing_as_it_was : TypeIn s w k → q ≡ NoPassing.Nothing → TypeAfter s w (passed_type (plain_in s w k) (passing stood)) k
+      pub passing_as_it_was : TypeIn s w k → q ≡ None → TypeAfter s w (passed_type (plain_in s w k) (passing stood)) k
       passing_as_it_was b e = record { is = sym (ap (passed_type (plain_in s w k)) (passing_is ∙ ap (passing_of s w) e)); type = b }
 
-  module _ (at : ℕ) (q : Choosing) (o : ChoosingOf w j q) where
+  module _ (at : ℕ) (q : CodeOption Choosing) (o : ChoosingOf w j q) where
     abbrev chosen_by : Ty Name
     chosen_by = after_choosing (plain_in s w i) (name_at s (at + 1)) (choosing stood)
 
     choosing_is : choosing stood ≡ choosing_of s w q
     choosing_is = ap choosing (sym f.is) ∙ (o.says s t f.type).is
 
-    pub choosing_nothing : q ≡ NoChoosing.Nothing → TypeAfter s w chosen_by i
+    pub choosing_nothing : q ≡ None → TypeAfter s w chosen_by i
     choosing_nothing e = record { is = sym (ap (after_choosing (plain_in s w i) (name_at s (at + 1))) (choosing_is ∙ ap (choosing_of s w) e)); type = a }
 
-    module _ (u e n : ℕ) (m : q ≡ Chooses u e n) where
+    module _ (u e n : ℕ) (m : q ≡ choosing_words u e n) where
       pub choosing_labels : AlternativesIn s w e n
       choosing_labels = (subst (chosen_in s w) m (o.says s t f.type).parts).1
 
-      chosen_is : (r : Found) → LeadsTo s w at e n r → chosen_by ≡ get_or (map (plain_in s w) (place_of r)) (plain_in s w i)
+      chosen_is : (r : CodeOption ℕ) → LeadsTo s w at e n r → chosen_by ≡ get_or (map (plain_in s w) (place_of r)) (plain_in s w i)
       chosen_is r l = ap (after_choosing (plain_in s w i) (name_at s (at + 1))) (choosing_is ∙ ap (choosing_of s w) m) ∙ ap (λ (d : Option (Ty Name)). get_or d (plain_in s w i)) l.is
 
-      pub choosing_after : (r : Found) (y : ℕ) → LeadsTo s w at e n r → r ≡ At y → TypeAfter s w chosen_by y
-      choosing_after r y l z = record { is = sym (chosen_is r l ∙ ap (λ (x : Found). get_or (map (plain_in s w) (place_of x)) (plain_in s w i)) z); type = l.type y z }
+      pub choosing_after : (r : CodeOption ℕ) (y : ℕ) → LeadsTo s w at e n r → r ≡ Some y → TypeAfter s w chosen_by y
+      choosing_after r y l z = record { is = sym (chosen_is r l ∙ ap (λ (x : CodeOption ℕ). get_or (map (plain_in s w) (place_of x)) (plain_in s w i)) z); type = l.type y z }
 
-      pub choosing_none : (r : Found) → LeadsTo s w at e n r → r ≡ Nothing → TypeAfter s w chosen_by i
-      choosing_none r l z = record { is = sym (chosen_is r l ∙ ap (λ (x : Found). get_or (map (plain_in s w) (place_of x)) (plain_in s w i)) z); type = a }
+      pub choosing_none : (r : CodeOption ℕ) → LeadsTo s w at e n r → r ≡ None → TypeAfter s w chosen_by i
+      choosing_none r l z = record { is = sym (chosen_is r l ∙ ap (λ (x : CodeOption ℕ). get_or (map (plain_in s w) (place_of x)) (plain_in s w i)) z); type = a }
 
 -- the message of a node's kind
 module _ (s w : List ℕ) (n : TermNode) (A : Ty Name) where
@@ -159,15 +155,15 @@ changed_unheld n f (x ∷ l) e = go (same n x.0) e (changed_unheld n f l)
     go true z r = absurd (none-ne-some x.1 (sym z))
     go false z r = ap (λ m. x ∷ m) (r z)
 
-module _ (s w : List ℕ) (h : Held) (n : TermNode) (at : ℕ) {f : Lookup} (a : Sees s h at f) (t : HeldIn s w h) where
-  pub moves_found : {e : EndWords} {node : ℕ} {r : Held} → f ≡ lookups.Found e → TypeAfter s w (after_message (program_in s w) (message s n) (plain_in s w e.node)) node → Retypes s h at node r → MovesOn s w h n at r
+module _ (s w : List ℕ) (h : Held) (n : TermNode) (at : ℕ) {f : CodeOption EndWords} (a : Sees s h at f) (t : HeldIn s w h) where
+  pub moves_found : {e : EndWords} {node : ℕ} {r : Held} → f ≡ Some e → TypeAfter s w (after_message (program_in s w) (message s n) (plain_in s w e.node)) node → Retypes s h at node r → MovesOn s w h n at r
   moves_found {r = r} z u c = record {
     is = c.is w ∙ ap (λ A. retyped_end (name_at s at) A (channels_of s w h)) u.is ∙ sym (onward_is (program_in s w) (message s n) (name_at s at) (channels_of s w h) (a.is w ∙ ap (end_found s w) z));
     many = sym (channels_many s w r) ∙ ap length (c.is w) ∙ changed_many (name_at s at) _ (channels_of s w h) ∙ channels_many s w h;
     fits = c.fits w u.type t;
   }
 
-  pub moves_nothing : f ≡ lookups.Nothing → MovesOn s w h n at h
+  pub moves_nothing : f ≡ None → MovesOn s w h n at h
   moves_nothing z = record { is = sym (changed_unheld (name_at s at) _ (channels_of s w h) (a.is w ∙ ap (end_found s w) z)); many = refl; fits = t }
 
 -- ── the sender's channels afterwards
@@ -281,55 +277,62 @@ module _ (s w : List ℕ) (A : Proc) (small : (o : ℕ) (c : Located) (k : ℕ) 
     ),
   )
 
+-- the node of the term that a process runs, if it runs one
+abbrev pub RunsTerm : List ℕ → ℕ → ℕ → CodeOption TermNode → Type 0
+RunsTerm w kind pointer (Some n) = (kind ≡ running_kind) × (pointer < process_term_limit) × TermOf w pointer n
+RunsTerm w kind pointer None = kind ≡ running_kind → process_term_limit ≤ pointer
+
+-- the node of the turn of a process on the channel of a name, if it has one
+abbrev pub TurnOn : List ℕ → List ℕ → ℕ → Doing → CodeOption TermNode → Type 0
+TurnOn s w x d (Some n) = Heard s w x d n
+TurnOn s w x d None = heard (name_at s x) (turn_of d) ≡ alone
+
+-- a node that is no turn
+abbrev pub idle : TermNode
+idle = term_node idle_kind 0 0 0 0
+
 module _ (s w : List ℕ) (x : ℕ) where
-  no_turn : (d : Doing) → turn_of d ≡ alone → Heard s w x d (term_node 0 0 0 0 0)
-  no_turn d e = record { is = ap (heard (name_at s x)) e; parts = tt }
+  -- no turn, as the turn of such a node
+  pub idle_heard : {d : Doing} → TurnOn s w x d None → Heard s w x d idle
+  idle_heard e = record { is = e; parts = tt }
 
   module _ (kind pointer : ℕ) (o : (kind ≡ folding_kind → ⊥) → ProcessIn s w pointer) (t : Tables s w) where
-    pub heard_idle : (kind ≡ running_kind → ⊥) → Heard s w x (doing_as s w kind pointer) (term_node 0 0 0 0 0)
-    heard_idle z = no_turn (doing_as s w kind pointer) (go kind z)
+    pub turn_idle : RunsTerm w kind pointer None → TurnOn s w x (doing_as s w kind pointer) None
+    turn_idle z = ap (heard (name_at s x)) (go kind o z)
       where
-        go : (k : ℕ) → (k ≡ 0 → ⊥) → turn_of (doing_as s w k pointer) ≡ alone
-        go zero z = absurd (z refl)
-        go (suc zero) z = refl
-        go (suc (suc k)) z = refl
+        go : (k : ℕ) → ((k ≡ folding_kind → ⊥) → ProcessIn s w pointer) → (k ≡ running_kind → process_term_limit ≤ pointer) → turn_of (doing_as s w k pointer) ≡ alone
+        go zero o z = ap turn ((process_root s w t.within pointer (o λ e. omega arith)).none (z refl))
+        go (suc zero) o z = refl
+        go (suc (suc k)) o z = refl
 
-    module _ (z : kind ≡ running_kind) where
+    module _ (n : TermNode) (f : RunsTerm w kind pointer (Some n)) where
       runs_term : ProcessIn s w pointer
-      runs_term = o (λ e. let q : ◌≡◌ {A = ℕ} 0 1 = sym z ∙ e in omega arith)
+      runs_term = o (λ e. let q : ◌≡◌ {A = ℕ} 0 1 = sym f.0 ∙ e in omega arith)
 
-      running_so : doing_as s w kind pointer ≡ running (process_in s w pointer)
-      running_so = ap (λ k. doing_as s w k pointer) z
+      turn_so : (turn (process_in s w pointer) ≡ turn_by s w n n.kind) × parts_by s w n n.kind
+      turn_so = each_kind (process_cases s w n (process_in s w pointer)) (Turns s w (process_in s w pointer) (label_small s w pointer t runs_term) n.at n.first n.second n.third)
+          (turns s w (process_in s w pointer) (label_small s w pointer t runs_term) n.at n.first n.second n.third) n.kind ((f.2.says s t runs_term).node f.1).1
 
-      pub heard_empty : process_term_limit ≤ pointer → Heard s w x (doing_as s w kind pointer) (term_node 0 0 0 0 0)
-      heard_empty b = no_turn (doing_as s w kind pointer) (ap turn_of running_so ∙ ap turn ((process_root s w t.within pointer runs_term).none b))
+      none_either : (c : Bool) → alone ≡ cond c alone alone
+      none_either true = refl
+      none_either false = refl
 
-      module _ (b : pointer < process_term_limit) (n : TermNode) (f : TermOf w pointer n) where
-        turn_so : (turn (process_in s w pointer) ≡ turn_by s w n n.kind) × parts_by s w n n.kind
-        turn_so = each_kind (process_cases s w n (process_in s w pointer)) (Turns s w (process_in s w pointer) (label_small s w pointer t runs_term) n.at n.first n.second n.third)
-            (turns s w (process_in s w pointer) (label_small s w pointer t runs_term) n.at n.first n.second n.third) n.kind ((f.says s t runs_term).node b).1
+      named : (k : ℕ) (c : Bool) → same (name_at s n.first) (name_at s x) ≡ c → heard (name_at s x) (turn_by s w n k) ≡ cond c (turn_by s w n k) alone
+      named zero c e = none_either c
+      named (suc zero) c e = ap (λ d. cond d (turn_by s w n 1) alone) e
+      named (suc (suc zero)) c e = ap (λ d. cond d (turn_by s w n 2) alone) e
+      named (suc (suc (suc zero))) c e = ap (λ d. cond d (turn_by s w n 3) alone) e
+      named (suc (suc (suc (suc zero)))) c e = none_either c
+      named (suc (suc (suc (suc (suc zero))))) c e = none_either c
+      named (suc (suc (suc (suc (suc (suc zero)))))) c e = ap (λ d. cond d (turn_by s w n 6) alone) e
+      named (suc (suc (suc (suc (suc (suc (suc zero))))))) c e = ap (λ d. cond d (turn_by s w n 7) alone) e
+      named (suc (suc (suc (suc (suc (suc (suc (suc zero)))))))) c e = ap (λ d. cond d (turn_by s w n 8) alone) e
+      named (suc (suc (suc (suc (suc (suc (suc (suc (suc k))))))))) c e = none_either c
 
-        none_either : (c : Bool) → alone ≡ cond c alone alone
-        none_either true = refl
-        none_either false = refl
+      heard_so : (c : Bool) → same (name_at s n.first) (name_at s x) ≡ c → heard (name_at s x) (turn_of (doing_as s w kind pointer)) ≡ cond c (turn_by s w n n.kind) alone
+      heard_so c e = ap (λ k. heard (name_at s x) (turn_of (doing_as s w k pointer))) f.0 ∙ ap (heard (name_at s x)) turn_so.0 ∙ named n.kind c e
 
-        named : (k : ℕ) (c : Bool) → same (name_at s n.first) (name_at s x) ≡ c → heard (name_at s x) (turn_by s w n k) ≡ cond c (turn_by s w n k) alone
-        named zero c e = none_either c
-        named (suc zero) c e = ap (λ d. cond d (turn_by s w n 1) alone) e
-        named (suc (suc zero)) c e = ap (λ d. cond d (turn_by s w n 2) alone) e
-        named (suc (suc (suc zero))) c e = ap (λ d. cond d (turn_by s w n 3) alone) e
-        named (suc (suc (suc (suc zero)))) c e = none_either c
-        named (suc (suc (suc (suc (suc zero))))) c e = none_either c
-        named (suc (suc (suc (suc (suc (suc zero)))))) c e = ap (λ d. cond d (turn_by s w n 6) alone) e
-        named (suc (suc (suc (suc (suc (suc (suc zero))))))) c e = ap (λ d. cond d (turn_by s w n 7) alone) e
-        named (suc (suc (suc (suc (suc (suc (suc (suc zero)))))))) c e = ap (λ d. cond d (turn_by s w n 8) alone) e
-        named (suc (suc (suc (suc (suc (suc (suc (suc (suc k))))))))) c e = none_either c
-
-        heard_so : (c : Bool) → same (name_at s n.first) (name_at s x) ≡ c → heard (name_at s x) (turn_of (doing_as s w kind pointer)) ≡ cond c (turn_by s w n n.kind) alone
-        heard_so c e = ap (λ d. heard (name_at s x) (turn_of d)) running_so ∙ ap (heard (name_at s x)) turn_so.0 ∙ named n.kind c e
-
-        pub heard_there : same (name_at s n.first) (name_at s x) ≡ true → Heard s w x (doing_as s w kind pointer) n
-        heard_there e = record { is = heard_so true e; parts = turn_so.1 }
-
-        pub heard_other : same (name_at s n.first) (name_at s x) ≡ false → Heard s w x (doing_as s w kind pointer) (term_node 0 0 0 0 0)
-        heard_other e = record { is = heard_so false e; parts = tt }
+      -- the term is its turn, if it acts on that channel
+      pub turn_named : (c : Bool) → c ≡ same (name_at s n.first) (name_at s x) → TurnOn s w x (doing_as s w kind pointer) (then_some c n)
+      turn_named true e = record { is = heard_so true (sym e); parts = turn_so.1 }
+      turn_named false e = heard_so false (sym e)

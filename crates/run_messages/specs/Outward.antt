@@ -1,12 +1,12 @@
 -- A send on a channel that the outside uses.
 use Rattle.std.specs.Prelude.{◌+◌, ◌<◌, ◌≤◌, suc, ℕ, eqb, length, set, Bool, cond, false, true, List, [], ◌++◌, ◌∷◌, ◌≡◌, refl}
+use Rattle.std.specs.Prelude.{Option as CodeOption, Some, None}
 use Rattle.calculus.specs.Configuration.{Config, End, Outside, Process, one_more_given, outside_of, replaced, retyped_outside, with_given, with_outside}
 use Rattle.calculus.specs.Steps.{Outcome, after_message, is_given_up, lacking, new_outside, outside_onward, passed_out, passed_type, sending, to_outside}
 use Rattle.calculus.specs.Types.{passing, unfolded}
 use Rattle.calculus.specs.declared.answers.Seen.TheVariants.{Close, Label, Passed}
 use Rattle.check_contexts.specs.Halves.{append-nil}
 use Rattle.check_contexts.specs.Held.{Sees}
-use Rattle.check_contexts.specs.declared.held.Lookup.{Lookup}
 use Rattle.notation.specs.Limits.{outside_numbers}
 use Rattle.notation.specs.Reader.{name_in}
 use Rattle.notation.specs.Token.{name_at}
@@ -36,7 +36,6 @@ use Rattle.std.proofs.Common.{le-ltb, lt-ltb, ◌∙◌, ap, subst, sym, arith}
 use Rattle.std.proofs.Math.ListN.{get_elem?}
 use Rattle.std.proofs.Math.Option.{Option, some}
 use Rattle.calculus.specs.Configuration as calculus
-use Rattle.check_contexts.specs.declared.held.Lookup.TheVariants as lookups
 use Rattle.run_words.specs.Operations as raw
 use Rattle.run_words.specs.declared.records.Far.TheVariants as far
 use Rattle.run_messages.specs.Sending.{sending_by}
@@ -151,11 +150,11 @@ module _ (s w old : List ℕ) (sent : Sending) (number : ℕ) where
       );
     }
 
-  module _ {f : Lookup} (z : sent.term.kind ≡ send_channel_kind) (a : Sees s sent.before.held sent.term.second f) where
-    pub passes_none : f ≡ lookups.Nothing → Carries s w old old NotOpen (out_by s w old sent number)
+  module _ {f : CodeOption EndWords} (z : sent.term.kind ≡ send_channel_kind) (a : Sees s sent.before.held sent.term.second f) where
+    pub passes_none : f ≡ None → Carries s w old old NotOpen (out_by s w old sent number)
     passes_none y = subst (λ k. Carries s w old old NotOpen (out_at s w old sent number k)) (sym z) (held_none a _ y)
 
-    module _ {d : EndWords} (y : f ≡ lookups.Found d) where
+    module _ {d : EndWords} (y : f ≡ Some d) where
       abbrev or_lacking : Bool → Outcome
       or_lacking b = cond b (passed_by d (is_given_up (far_of s w old d))) lacking
 

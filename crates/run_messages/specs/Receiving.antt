@@ -1,11 +1,11 @@
 -- A recv: as the send at its far end, or with its far end given up.
 use Rattle.std.specs.Prelude.{◌<◌, ◌≤◌, suc, zero, ℕ, Bool, cond, false, true, List, ◌⊎◌, ◌≡◌, refl}
+use Rattle.std.specs.Prelude.{Option, Some, None}
 use Rattle.calculus.specs.Configuration.{Config, Holder, Outside, folds_up}
 use Rattle.calculus.specs.Program.{Program}
 use Rattle.calculus.specs.Steps.{Outcome, Turn, alone, answering, handler_starts, not_open, receive, receives, receiving, send, sends, turn_of}
 use Rattle.calculus.specs.declared.answers.Seen.TheVariants.{Nothing}
 use Rattle.check_contexts.specs.Held.{Drops, Sees}
-use Rattle.check_contexts.specs.declared.held.Lookup.{Lookup}
 use Rattle.notation.specs.Bytes.{same}
 use Rattle.notation.specs.Reader.{name_in}
 use Rattle.notation.specs.Token.{name_at}
@@ -27,7 +27,6 @@ use Rattle.run_words.specs.declared.records.Held.{Held}
 use Rattle.run_words.specs.declared.records.Process.{Process as ProcessWords}
 use Rattle.std.proofs.Common.{inl, inr, ◌∙◌, ap, subst, sym, arith}
 use Rattle.calculus.specs.Configuration as calculus
-use Rattle.check_contexts.specs.declared.held.Lookup.TheVariants as lookups
 use Rattle.run_words.specs.Values as values
 use Rattle.run_words.specs.declared.records.Far.TheVariants as far
 use Rattle.run_messages.specs.Sending.{send_by}
@@ -54,11 +53,7 @@ answering_heard p C h alone = refl
 abbrev pub receiving_by : List ℕ → List ℕ → List ℕ → ℕ → ProcessWords → ℕ → EndWords → Outcome
 receiving_by s w old i p c e = receiving (program_in s w) (config_in s w old) i (process_as s w p) (name_at s c) (far_of s w old e)
 
--- some far end is at a place and position; whatever recv has its far end there, that is what becomes of it
-pub record FarAt (s w ws : List ℕ) (j k : ℕ) : Type 0 where
-  pub end : EndWords
-  pub is : far_raw s w ws end ≡ far.Process j k
-
+-- whatever recv has its far end at a place and position, that is what becomes of it
 pub record Answers (s w old new : List ℕ) (j k : ℕ) (o : OutcomeWords) : Type 0 where
   pub is : (i : ℕ) (p : ProcessWords) (c : ℕ) (e : EndWords) → far_raw s w old e ≡ far.Process j k → Carries s w old new o (receiving_by s w old i p c e)
 
@@ -90,10 +85,8 @@ parts_third s w t (suc (suc zero)) a b p = p
 parts_third s w t (suc (suc (suc zero))) a b (l, p) = p
 parts_third s w t (suc (suc (suc (suc k)))) a b p = absurd (omega arith)
 
-pub send_parts : (s w : List ℕ) (t : TermNode) → (t.kind ≡ idle_kind → ⊥) → t.kind ≤ send_label_kind → parts_by s w t t.kind → SendNode t × ProcessIn s w t.third
-send_parts s w t a b p =
-    let l : send_unit_kind ≤ t.kind = omega (arith, a) in
-    (record { low = l; high = b; label = λ z. (subst (parts_by s w t) z p).0 }, parts_third s w t t.kind l b p)
+pub send_parts : (s w : List ℕ) (t : TermNode) → send_unit_kind ≤ t.kind → t.kind ≤ send_label_kind → parts_by s w t t.kind → SendNode t × ProcessIn s w t.third
+send_parts s w t a b p = (record { low = a; high = b; label = λ z. (subst (parts_by s w t) z p).0 }, parts_third s w t t.kind a b p)
 
 module _ (s w old : List ℕ) (i : ℕ) (p : ProcessWords) (c : ℕ) (e : EndWords) where
   abbrev holder_by : ℕ → ProcessWords → ℕ → Holder
@@ -106,15 +99,11 @@ module _ (s w old : List ℕ) (i : ℕ) (p : ProcessWords) (c : ℕ) (e : EndWor
         ∙ answering_heard (program_in s w) (config_in s w old) (holder_by j r x) (turn_of (doing_as s w r.kind r.pointer))
         ∙ ap (answered_by (program_in s w) (config_in s w old) (holder_by j r x)) g.is
 
-    pub answers_not : (t.kind ≡ idle_kind) ⊎ (send_label_kind < t.kind) → Carries s w old old NotOpen (receiving_by s w old i p c e)
-    answers_not z = subst (Carries s w old old NotOpen) (sym (answers_as ∙ answered_alone s w (config_in s w old) (holder_by j r x) t t.kind (λ y. go z (omega arith, omega arith)) (λ y. go z (omega arith, omega arith)) (λ y. go z (omega arith, omega arith)))) (record { is = (refl, refl) })
-      where
-        go : (t.kind ≡ idle_kind) ⊎ (send_label_kind < t.kind) → (send_unit_kind ≤ t.kind) × (t.kind ≤ send_label_kind) → ⊥
-        go (inl a) (b, d) = omega arith
-        go (inr a) (b, d) = omega arith
+    pub answers_not : (send_unit_kind ≤ t.kind → t.kind ≤ send_label_kind → ⊥) → Carries s w old old NotOpen (receiving_by s w old i p c e)
+    answers_not z = subst (Carries s w old old NotOpen) (sym (answers_as ∙ answered_alone s w (config_in s w old) (holder_by j r x) t t.kind (λ y. z (omega arith) (omega arith)) (λ y. z (omega arith) (omega arith)) (λ y. z (omega arith) (omega arith)))) (record { is = (refl, refl) })
 
-    pub answers : {new : List ℕ} {o : OutcomeWords} → (t.kind ≡ idle_kind → ⊥) → t.kind ≤ send_label_kind → Carries s w old new o (send_by s w old j r t) → Carries s w old new o (receiving_by s w old i p c e)
-    answers {new} {o} a b k = subst (Carries s w old new o) (answered_send s w (config_in s w old) (holder_by j r x) t t.kind (omega (arith, a)) b ∙ sym answers_as) k
+    pub answers : {new : List ℕ} {o : OutcomeWords} → send_unit_kind ≤ t.kind → t.kind ≤ send_label_kind → Carries s w old new o (send_by s w old j r t) → Carries s w old new o (receiving_by s w old i p c e)
+    answers {new} {o} a b k = subst (Carries s w old new o) (answered_send s w (config_in s w old) (holder_by j r x) t t.kind a b ∙ sym answers_as) k
 
   receives_up : {F : calculus.Far} {new : List ℕ} {h : Held} → FarAs (name_at s) (plain_in s w) (process_in s w) (raw_in old) far.GivenUp F → Drops s p.held c h → Becomes s w old new (handler_starts i (process_as s w (values.folding_up h p)) (config_in s w old))
       → Carries s w old new (Carried Nothing) (receiving (program_in s w) (config_in s w old) i (process_as s w p) (name_at s c) F)
@@ -130,11 +119,11 @@ module _ (s w old : List ℕ) (i : ℕ) (p : ProcessWords) (c : ℕ) (e : EndWor
   receives_outside k f = receives_out (far_as s w old e (far.Outside k) f)
 
 -- ── the rule
-module _ (s w old : List ℕ) (i : ℕ) (p : ProcessWords) (c : ℕ) {f : Lookup} (a : Sees s p.held c f) where
-  pub receives_unheld : f ≡ lookups.Nothing → Carries s w old old NotOpen (receive (program_in s w) (config_in s w old) i (process_as s w p) (name_in s c))
+module _ (s w old : List ℕ) (i : ℕ) (p : ProcessWords) (c : ℕ) {f : Option EndWords} (a : Sees s p.held c f) where
+  pub receives_unheld : f ≡ None → Carries s w old old NotOpen (receive (program_in s w) (config_in s w old) i (process_as s w p) (name_in s c))
   unfolding receive
   receives_unheld q = held_none a _ q
 
-  pub receives_on : {e : EndWords} {new : List ℕ} {o : OutcomeWords} → f ≡ lookups.Found e → Carries s w old new o (receiving_by s w old i p c e) → Carries s w old new o (receive (program_in s w) (config_in s w old) i (process_as s w p) (name_in s c))
+  pub receives_on : {e : EndWords} {new : List ℕ} {o : OutcomeWords} → f ≡ Some e → Carries s w old new o (receiving_by s w old i p c e) → Carries s w old new o (receive (program_in s w) (config_in s w old) i (process_as s w p) (name_in s c))
   unfolding receive
   receives_on q k = held_some a _ q k

@@ -1,10 +1,10 @@
 -- A send, whoever is at the far end.
 use Rattle.std.specs.Prelude.{◌≤◌, suc, zero, ℕ, length, List, ◌≡◌, refl}
+use Rattle.std.specs.Prelude.{Option, Some, None}
 use Rattle.calculus.specs.Configuration.{Process, goes_on, replaced}
 use Rattle.calculus.specs.Steps.{Outcome, after_send, parting, send, sending, unheard}
 use Rattle.calculus.specs.declared.answers.Seen.TheVariants.{Nothing}
 use Rattle.check_contexts.specs.Held.{Sees, channels_of}
-use Rattle.check_contexts.specs.declared.held.Lookup.{Lookup}
 use Rattle.notation.specs.Reader.{name_in}
 use Rattle.notation.specs.Token.{name_at}
 use Rattle.notation.specs.declared.reading.TermNode.{TermNode}
@@ -25,7 +25,6 @@ use Rattle.run_words.specs.declared.records.Held.{Held}
 use Rattle.run_words.specs.declared.records.Process.{Process as ProcessWords}
 use Rattle.std.proofs.Common.{subst, sym, arith}
 use Rattle.calculus.specs.Configuration as calculus
-use Rattle.check_contexts.specs.declared.held.Lookup.TheVariants as lookups
 use Rattle.run_words.specs.Values as values
 use Rattle.run_words.specs.declared.records.Far.TheVariants as far
 
@@ -47,11 +46,11 @@ module _ (s w old : List ℕ) (sent : Sending) where
   abbrev unheard_at : ℕ → Outcome
   unheard_at k = unheard (config_in s w old) sent.place (process_as s w sent.before) (process_as s w sent.after) (message_by s sent.term.second k)
 
-  module _ {f : Lookup} (z : sent.term.kind ≡ send_channel_kind) (a : Sees s sent.before.held sent.term.second f) where
-    pub unheard_none : f ≡ lookups.Nothing → Carries s w old old NotOpen unheard_by
+  module _ {f : Option EndWords} (z : sent.term.kind ≡ send_channel_kind) (a : Sees s sent.before.held sent.term.second f) where
+    pub unheard_none : f ≡ None → Carries s w old old NotOpen unheard_by
     unheard_none y = subst (λ k. Carries s w old old NotOpen (unheard_at k)) (sym z) (held_none a _ y)
 
-    pub unheard_parts : {new : List ℕ} {r : OutcomeWords} {d : EndWords} → f ≡ lookups.Found d → Carries s w old new r (parting (config_in s w old) sent.place (process_as s w sent.after) (end_as s w d)) → Carries s w old new r unheard_by
+    pub unheard_parts : {new : List ℕ} {r : OutcomeWords} {d : EndWords} → f ≡ Some d → Carries s w old new r (parting (config_in s w old) sent.place (process_as s w sent.after) (end_as s w d)) → Carries s w old new r unheard_by
     unheard_parts {new} {r} y c = subst (λ k. Carries s w old new r (unheard_at k)) (sym z) (held_some a _ y c)
 
   pub unheard_goes : {new : List ℕ} → send_unit_kind ≤ sent.term.kind → sent.term.kind ≤ send_label_kind → (sent.term.kind ≡ send_channel_kind → ⊥) → Becomes s w old new (replaced sent.place (process_as s w sent.after) (config_in s w old)) → Carries s w old new (Carried Nothing) unheard_by
@@ -78,19 +77,19 @@ send_by s w old i p n = send (program_in s w) (config_in s w old) i (process_as 
 abbrev pub sent_by : List ℕ → List ℕ → ProcessWords → TermNode → Process
 sent_by s w p n = goes_on (process_as s w p) (process_in s w n.third) (after_send (program_in s w) (name_at s n.first) (message s n) (channels_of s w p.held))
 
-module _ (s w old : List ℕ) (i : ℕ) (p : ProcessWords) (n : TermNode) {f : Lookup} (a : Sees s p.held n.first f) where
-  pub sends_nothing : f ≡ lookups.Nothing → Carries s w old old NotOpen (send_by s w old i p n)
+module _ (s w old : List ℕ) (i : ℕ) (p : ProcessWords) (n : TermNode) {f : Option EndWords} (a : Sees s p.held n.first f) where
+  pub sends_nothing : f ≡ None → Carries s w old old NotOpen (send_by s w old i p n)
   unfolding send
   sends_nothing q = held_none a _ q
 
   -- with the process after it as the calculus has it
-  pub sends_over : {e : EndWords} {new : List ℕ} {o : OutcomeWords} → f ≡ lookups.Found e
+  pub sends_over : {e : EndWords} {new : List ℕ} {o : OutcomeWords} → f ≡ Some e
       → Carries s w old new o (sending (program_in s w) (config_in s w old) i (process_as s w p) (sent_by s w p n) (message s n) (end_as s w e) (far_of s w old e)) → Carries s w old new o (send_by s w old i p n)
   unfolding send
   sends_over q c = held_some a _ q c
 
   -- and as its words are
-  pub sends_on : {e : EndWords} {h : Held} {new : List ℕ} {o : OutcomeWords} → f ≡ lookups.Found e → SentHeld s w p.held n h
+  pub sends_on : {e : EndWords} {h : Held} {new : List ℕ} {o : OutcomeWords} → f ≡ Some e → SentHeld s w p.held n h
       → Carries s w old new o (sending_by s w old (record { place = i; before = p; after = values.running_on n.third h p; term = n; over = e })) → Carries s w old new o (send_by s w old i p n)
   sends_on {e} {new = new} {o = o} q g c =
       sends_over q

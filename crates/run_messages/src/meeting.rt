@@ -14,17 +14,15 @@ ghost use Rattle.read_tables.specs.Whole.{Tables};
 ghost use Rattle.run_words.specs.Raw.{raw_in, link_of};
 ghost use Rattle.check_contexts.specs.Held.{HeldIn, FoundIn};
 
-use crate::messages::{Receiver, Sending, came_over, move_on, turn_on};
+use crate::messages::{Party, Sending, came_over, move_on, party_at};
 use calculus::answers::Seen;
-use check_contexts::held::{Lookup, bring_end, drop_end, find_end};
+use check_contexts::held::{bring_end, drop_end, find_end};
 use check_types::branches::branch_of;
 use notation::kinds::{RECV_UNIT, SEND_LABEL, SEND_UNIT};
-use notation::reading::Found;
 use run_alone::outcome::Outcome;
 use run_alone::raising::act_as_raise;
-use run_words::held::end_at;
-use run_words::processes::{load, store};
-use run_words::records::{FOLDING, Held, Process, RUNNING, UNLINKED};
+use run_words::processes::store;
+use run_words::records::{End, FOLDING, Held, Process, RUNNING, UNLINKED};
 
 // The recv of what a send sends is of a kind so much higher.
 pub(crate) const RECEIVES: usize = RECV_UNIT - SEND_UNIT;
@@ -55,7 +53,7 @@ fn go_on(
     scratch: &[u32],
     run: &mut [u32],
     sent: Sending,
-    to: Receiver,
+    to: Party,
     pointer: usize,
     held: Held,
 ) -> Outcome
@@ -65,42 +63,47 @@ fn go_on(
     requires process_in { ProcessIn text.now scratch.now pointer × HeldIn text.now scratch.now held }
     ensures { Carries text.now scratch.now run.old run.new result (both_on text.now scratch.now run.old sent to pointer held) }
 {
-    let q = sent.after;
-    let mut r = to.process;
-    r.kind = RUNNING;
-    r.pointer = pointer as u32;
-    r.held = held;
-    store_both(text, scratch, run, sent.place, q, to.place, r);
+    let r = Process {
+        kind: RUNNING,
+        pointer: pointer as u32,
+        held,
+        ..to.process
+    };
+    store_both(text, scratch, run, sent.place, sent.after, to.place, r);
     Outcome::Carried(Seen::Nothing)
 }
 
 // The receiver closes the channel, and goes on.
-fn hear_close(text: &[u8], scratch: &[u32], run: &mut [u32], sent: Sending, to: Receiver) -> Outcome
+fn hear_close(text: &[u8], scratch: &[u32], run: &mut [u32], sent: Sending, to: Party) -> Outcome
     requires run_of { RunOf text.now scratch.now run.old }
     requires sending_in { SendingIn text.now scratch.now run.old sent }
     requires receiver_in { ReceiverIn text.now scratch.now run.old to }
     requires kind_value { (sent.term.kind ≡ send_unit_kind) × (to.term.kind ≡ recv_unit_kind) }
     ensures { Carries text.now scratch.now run.old run.new result (heard_by text.now scratch.now run.old sent to) }
 {
-    let r = to.process;
-    let t = to.term;
-    let h = r.held;
-    let held = drop_end(text, h, to.name);
-    go_on(text, scratch, run, sent, to, t.third, held)
+    let held = drop_end(text, to.process.held, to.name);
+    go_on(text, scratch, run, sent, to, to.term.third, held)
 }
 
 // With the end that was passed, if it was found and the receiver's own was: under the name at `at`, and of the type that its own lets over.
-fn bring_over(text: &[u8], scratch: &[u32], h: Held, own: Lookup, passed: Lookup, at: u32) -> Held
+fn bring_over(
+    text: &[u8],
+    scratch: &[u32],
+    h: Held,
+    own: Option<End>,
+    passed: Option<End>,
+    at: u32,
+) -> Held
     requires tables { Tables text.now scratch.now }
     requires held_in { HeldIn text.now scratch.now h × (h.count < held_limit) × (at < text_limit) }
     requires found_in { FoundIn text.now scratch.now own }
     requires found_in_2 { FoundIn text.now scratch.now passed }
     ensures { BringsOver text.now scratch.now h own passed at result }
 {
-    let Lookup::Found(e) = own else {
+    let Some(e) = own else {
         return h;
     };
-    let Lookup::Found(d) = passed else {
+    let Some(d) = passed else {
         return h;
     };
     let node = came_over(text, scratch, e.node as usize, d.node as usize);
@@ -108,13 +111,7 @@ fn bring_over(text: &[u8], scratch: &[u32], h: Held, own: Lookup, passed: Lookup
 }
 
 // The receiver takes the channel that was passed.
-fn hear_channel(
-    text: &[u8],
-    scratch: &[u32],
-    run: &mut [u32],
-    sent: Sending,
-    to: Receiver,
-) -> Outcome
+fn hear_channel(text: &[u8], scratch: &[u32], run: &mut [u32], sent: Sending, to: Party) -> Outcome
     requires run_of { RunOf text.now scratch.now run.old }
     requires sending_in { SendingIn text.now scratch.now run.old sent }
     requires receiver_in { ReceiverIn text.now scratch.now run.old to }
@@ -122,15 +119,12 @@ fn hear_channel(
     ensures { Carries text.now scratch.now run.old run.new result (heard_by text.now scratch.now run.old sent to) }
 {
     let n = sent.term;
-    let p = sent.before;
-    let passed = p.held;
-    let f = find_end(text, passed, n.second);
-    let r = to.process;
     let t = to.term;
-    let h = r.held;
+    let h = to.process.held;
+    let passed = find_end(text, sent.before.held, n.second);
     let own = find_end(text, h, to.name);
     let m = move_on(text, scratch, h, n, to.name);
-    let held = bring_over(text, scratch, m, own, f, t.second as u32);
+    let held = bring_over(text, scratch, m, own, passed, t.second as u32);
     go_on(text, scratch, run, sent, to, t.third, held)
 }
 
@@ -140,11 +134,9 @@ fn sender_goes_on(text: &[u8], scratch: &[u32], run: &mut [u32], sent: Sending, 
     requires sending_in { SendingIn text.now scratch.now run.old sent }
     ensures { Becomes text.now scratch.now run.old run.new (sender_on (link_of link) sent.place (process_as text.now scratch.now sent.after) (config_in text.now scratch.now run.old)) }
 {
-    if link == UNLINKED {
-        return;
+    if link != UNLINKED {
+        store(run, sent.place, sent.after);
     }
-    let q = sent.after;
-    store(run, sent.place, q);
 }
 
 // A label has come that the receiver leaves out: it "acts in that same step as by a raise and folds up", with what it holds now.
@@ -153,7 +145,7 @@ fn leave_out(
     scratch: &[u32],
     run: &mut [u32],
     sent: Sending,
-    to: Receiver,
+    to: Party,
     held: Held,
 ) -> Outcome
     requires run_of { RunOf text.now scratch.now run.old }
@@ -163,15 +155,17 @@ fn leave_out(
     ensures { Carries text.now scratch.now run.old run.new result (left_out text.now scratch.now run.old sent to held) }
 {
     let r = to.process;
-    let mut q = r;
-    q.kind = FOLDING;
-    q.held = held;
+    let q = Process {
+        kind: FOLDING,
+        held,
+        ..r
+    };
     sender_goes_on(text, scratch, run, sent, r.link);
     act_as_raise(text, scratch, run, to.place, q)
 }
 
 // The receiver goes on with the branch of the label, or leaves it out; either way its own end is of the type of the label.
-fn hear_label(text: &[u8], scratch: &[u32], run: &mut [u32], sent: Sending, to: Receiver) -> Outcome
+fn hear_label(text: &[u8], scratch: &[u32], run: &mut [u32], sent: Sending, to: Party) -> Outcome
     requires run_of { RunOf text.now scratch.now run.old }
     requires sending_in { SendingIn text.now scratch.now run.old sent }
     requires receiver_in { ReceiverIn text.now scratch.now run.old to }
@@ -180,18 +174,16 @@ fn hear_label(text: &[u8], scratch: &[u32], run: &mut [u32], sent: Sending, to: 
 {
     let n = sent.term;
     let t = to.term;
-    let r = to.process;
-    let h = r.held;
+    let h = to.process.held;
     let held = move_on(text, scratch, h, n, to.name);
-    let f = branch_of(text, scratch, n.second, t.second, t.third);
-    let Found::At(pointer) = f else {
-        return leave_out(text, scratch, run, sent, to, held);
-    };
-    go_on(text, scratch, run, sent, to, pointer, held)
+    match branch_of(text, scratch, n.second, t.second, t.third) {
+        Some(pointer) => go_on(text, scratch, run, sent, to, pointer, held),
+        None => leave_out(text, scratch, run, sent, to, held),
+    }
 }
 
 // The receiver takes the message.
-fn hear(text: &[u8], scratch: &[u32], run: &mut [u32], sent: Sending, to: Receiver) -> Outcome
+fn hear(text: &[u8], scratch: &[u32], run: &mut [u32], sent: Sending, to: Party) -> Outcome
     requires run_of { RunOf text.now scratch.now run.old }
     requires sending_in { SendingIn text.now scratch.now run.old sent }
     requires receiver_in { ReceiverIn text.now scratch.now run.old to }
@@ -199,14 +191,11 @@ fn hear(text: &[u8], scratch: &[u32], run: &mut [u32], sent: Sending, to: Receiv
     requires count_lt_held_limit { to.term.kind ≡ recv_channel_kind → to.process.held.count < held_limit }
     ensures { Carries text.now scratch.now run.old run.new result (heard_by text.now scratch.now run.old sent to) }
 {
-    let n = sent.term;
-    if n.kind == SEND_UNIT {
-        return hear_close(text, scratch, run, sent, to);
+    match sent.term.kind {
+        SEND_UNIT => hear_close(text, scratch, run, sent, to),
+        SEND_LABEL => hear_label(text, scratch, run, sent, to),
+        _ => hear_channel(text, scratch, run, sent, to),
     }
-    if n.kind == SEND_LABEL {
-        return hear_label(text, scratch, run, sent, to);
-    }
-    hear_channel(text, scratch, run, sent, to)
 }
 
 // The far end is at position k of what the process at place j holds.
@@ -224,20 +213,12 @@ pub(crate) fn meet(
     requires over_value { far_raw text.now scratch.now run.old sent.over ≡ far.Process j k }
     ensures { Carries text.now scratch.now run.old run.new result (sending_by text.now scratch.now run.old sent) }
 {
-    let r = load(run, j);
-    let h = r.held;
-    let y = end_at(h, k);
-    let x = y.name as usize;
-    let t = turn_on(text, scratch, r.kind, r.pointer, x);
+    let Some(to) = party_at(text, scratch, run, j, k) else {
+        return Outcome::NotOpen;
+    };
     let n = sent.term;
-    if t.kind != n.kind + RECEIVES {
+    if to.term.kind != n.kind + RECEIVES {
         return Outcome::NotOpen;
     }
-    let to = Receiver {
-        place: j,
-        process: r,
-        name: x,
-        term: t,
-    };
     hear(text, scratch, run, sent, to)
 }

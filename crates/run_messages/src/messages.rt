@@ -1,7 +1,7 @@
 // What goes over a channel, and what becomes of its type and of the sender's channels.
 ghost use Rattle.std.specs.Prelude.{◌≡◌, ◌+◌, ◌≤◌, ◌<◌};
 ghost use Rattle.notation.specs.Token.{name_at};
-ghost use Rattle.notation.specs.Tables.{term_node};
+ghost use Rattle.notation.specs.Tables.{Area};
 ghost use Rattle.calculus.specs.Types.{unfolded, passing, choosing};
 ghost use Rattle.calculus.specs.Steps.{after_passing, after_choosing, after_message, passed_type};
 ghost use Rattle.read_tables.specs.Program.{plain_in, program_in};
@@ -10,18 +10,19 @@ ghost use Rattle.read_tables.specs.Whole.{Tables};
 ghost use Rattle.run_words.specs.Raw.{folding_kind};
 ghost use Rattle.check_contexts.specs.Held.{HeldIn};
 ghost use Rattle.run_messages.specs.Kinds.{send_label_kind, send_unit_kind};
-ghost use Rattle.run_alone.specs.Run.{doing_as};
-ghost use Rattle.run_messages.specs.Messages.{message, TypeAfter, MovesOn, SentHeld, Heard};
+ghost use Rattle.run_alone.specs.Run.{RunOf, doing_as};
+ghost use Rattle.run_messages.specs.Messages.{message, TypeAfter, MovesOn, SentHeld, RunsTerm, TurnOn};
+ghost use Rattle.run_messages.specs.Parties.{FarAt, PartyAt};
 
 use check_contexts::held::{drop_end, position_named, retype_at};
 use check_types::acting::{choosing, labelled, passing, standing};
-use check_types::messages::{Choosing, Passing};
 use notation::kinds::{SEND_CHANNEL, SEND_LABEL, SEND_UNIT};
-use notation::reading::{Found, TermNode};
+use notation::reading::TermNode;
 use notation::script::Script;
 use notation::token::names_equal;
 use read_tables::access::term_node;
 use run_words::held::end_at;
+use run_words::processes::load;
 use run_words::records::{End, Held, Process, RUNNING};
 
 // A send under way: the process at a place before it and after it, its term, and the end that it goes over.
@@ -34,9 +35,9 @@ pub struct Sending {
     pub over: End,
 }
 
-// A process that receives: its place, where its name for the channel stands, and its term.
+// A process whose term acts on a channel: its place, where its name for the channel stands, and its term.
 #[derive(Clone, Copy)]
-pub struct Receiver {
+pub struct Party {
     pub place: usize,
     pub process: Process,
     pub name: usize,
@@ -50,10 +51,9 @@ fn after_passing(text: &[u8], scratch: &[u32], i: usize) -> usize
     ensures { TypeAfter text.now scratch.now (after_passing (plain_in text.now scratch.now i) (passing (unfolded (program_in text.now scratch.now).types (plain_in text.now scratch.now i)))) result }
 {
     let j = standing(text, scratch, i);
-    let q = passing(scratch, j);
-    match q {
-        Passing::Nothing => return i,
-        Passing::Passes(u, v, x, y) => return y,
+    match passing(scratch, j) {
+        Some(p) => p.after,
+        None => i,
     }
 }
 
@@ -64,15 +64,10 @@ fn after_choosing(text: &[u8], scratch: &[u32], at: usize, i: usize) -> usize
     ensures { TypeAfter text.now scratch.now (after_choosing (plain_in text.now scratch.now i) (name_at text.now (at + 1)) (choosing (unfolded (program_in text.now scratch.now).types (plain_in text.now scratch.now i)))) result }
 {
     let j = standing(text, scratch, i);
-    let q = choosing(scratch, j);
-    let Choosing::Chooses(u, e, n) = q else {
+    let Some(c) = choosing(scratch, j) else {
         return i;
     };
-    let f = labelled(text, scratch, at, e, n);
-    match f {
-        Found::At(y) => return y,
-        Found::Nothing => return i,
-    }
+    labelled(text, scratch, at, c.place, c.count).unwrap_or(i)
 }
 
 // The type of a channel of the type i, once the message of the send n has gone over it.
@@ -82,13 +77,11 @@ pub(crate) fn after_message(text: &[u8], scratch: &[u32], n: TermNode, i: usize)
     requires send_unit_kind_le_kind { (send_unit_kind ≤ n.kind) × (n.kind ≤ send_label_kind) }
     ensures { TypeAfter text.now scratch.now (after_message (program_in text.now scratch.now) (message text.now n) (plain_in text.now scratch.now i)) result }
 {
-    if n.kind == SEND_UNIT {
-        return i;
+    match n.kind {
+        SEND_UNIT => i,
+        SEND_CHANNEL => after_passing(text, scratch, i),
+        _ => after_choosing(text, scratch, n.second, i),
     }
-    if n.kind == SEND_CHANNEL {
-        return after_passing(text, scratch, i);
-    }
-    after_choosing(text, scratch, n.second, i)
 }
 
 // The type of an end of the type j that has come over a channel of the type i.
@@ -98,10 +91,9 @@ pub(crate) fn came_over(text: &[u8], scratch: &[u32], i: usize, j: usize) -> usi
     ensures { TypeAfter text.now scratch.now (passed_type (plain_in text.now scratch.now j) (passing (unfolded (program_in text.now scratch.now).types (plain_in text.now scratch.now i)))) result }
 {
     let k = standing(text, scratch, i);
-    let q = passing(scratch, k);
-    match q {
-        Passing::Nothing => return j,
-        Passing::Passes(u, v, x, y) => return x,
+    match passing(scratch, k) {
+        Some(p) => p.what,
+        None => j,
     }
 }
 
@@ -112,8 +104,7 @@ pub(crate) fn move_on(text: &[u8], scratch: &[u32], h: Held, n: TermNode, at: us
     requires send_unit_kind_le_kind { (send_unit_kind ≤ n.kind) × (n.kind ≤ send_label_kind) }
     ensures { MovesOn text.now scratch.now h n at result }
 {
-    let f = position_named(text, h, at);
-    let Found::At(k) = f else {
+    let Some(k) = position_named(text, h, at) else {
         return h;
     };
     let e = end_at(h, k);
@@ -128,48 +119,55 @@ pub(crate) fn after_send(text: &[u8], scratch: &[u32], h: Held, n: TermNode) -> 
     requires send_unit_kind_le_kind { (send_unit_kind ≤ n.kind) × (n.kind ≤ send_label_kind) }
     ensures { SentHeld text.now scratch.now h n result }
 {
-    if n.kind == SEND_UNIT {
-        return drop_end(text, h, n.first);
-    }
-    if n.kind == SEND_LABEL {
-        return move_on(text, scratch, h, n, n.first);
-    }
-    let kept = drop_end(text, h, n.second);
-    move_on(text, scratch, kept, n, n.first)
-}
-
-// The kind of a node that is no turn.
-pub(crate) const IDLE: usize = 0;
-
-// A node that is no turn.
-fn idle() -> TermNode
-    ensures { result ≡ term_node 0 0 0 0 0 }
-{
-    TermNode {
-        kind: IDLE,
-        at: 0,
-        first: 0,
-        second: 0,
-        third: 0,
+    match n.kind {
+        SEND_UNIT => drop_end(text, h, n.first),
+        SEND_LABEL => move_on(text, scratch, h, n, n.first),
+        _ => {
+            let kept = drop_end(text, h, n.second);
+            move_on(text, scratch, kept, n, n.first)
+        }
     }
 }
 
-// The node of the term at a pointer, where a process runs it and it acts on the channel whose name is the one at `x`.
-pub fn turn_on(text: &[u8], scratch: &[u32], kind: u32, pointer: u32, x: usize) -> TermNode
-    requires tables { Tables text.now scratch.now }
-    requires process_in { (kind ≡ folding_kind → ⊥) → ProcessIn text.now scratch.now pointer }
-    ensures { Heard text.now scratch.now x (doing_as text.now scratch.now kind pointer) result }
+// The node of the term that a process runs, if it runs one.
+pub fn running_term(scratch: &[u32], kind: u32, pointer: u32) -> Option<TermNode>
+    requires { Area scratch.now }
+    ensures { RunsTerm scratch.now kind pointer result }
 {
     if kind != RUNNING {
-        return idle();
+        return None;
     }
     let p = pointer as usize;
     if Script::PROCESS_TERMS <= p {
-        return idle();
+        return None;
     }
-    let n = term_node(scratch, p);
-    if names_equal(text, n.first, x) {
-        return n;
-    }
-    idle()
+    Some(term_node(scratch, p))
+}
+
+// The same, if the term acts on the channel whose name is the one at `x`.
+pub fn turn_on(text: &[u8], scratch: &[u32], kind: u32, pointer: u32, x: usize) -> Option<TermNode>
+    requires tables { Tables text.now scratch.now }
+    requires process_in { (kind ≡ folding_kind → ⊥) → ProcessIn text.now scratch.now pointer }
+    ensures { TurnOn text.now scratch.now x (doing_as text.now scratch.now kind pointer) result }
+{
+    let n = running_term(scratch, kind, pointer)?;
+    names_equal(text, n.first, x).then_some(n)
+}
+
+// The process at place j, if its term acts on the channel at position k of what it holds.
+pub fn party_at(text: &[u8], scratch: &[u32], run: &[u32], j: usize, k: usize) -> Option<Party>
+    requires run_of { RunOf text.now scratch.now run.now }
+    requires far_at { FarAt text.now scratch.now run.now j k }
+    ensures { PartyAt text.now scratch.now run.now j k result }
+{
+    let process = load(run, j);
+    let y = end_at(process.held, k);
+    let name = y.name as usize;
+    let term = turn_on(text, scratch, process.kind, process.pointer, name)?;
+    Some(Party {
+        place: j,
+        process,
+        name,
+        term,
+    })
 }

@@ -16,7 +16,7 @@ ghost use Rattle.run_messages.specs.Outward.{OutsideIn, out_by, numbered, passed
 
 use crate::messages::{Sending, after_message, came_over};
 use calculus::answers::Seen;
-use check_contexts::held::{Lookup, find_end};
+use check_contexts::held::find_end;
 use notation::kinds::{SEND_CHANNEL, SEND_UNIT};
 use notation::script::Script;
 use run_alone::outcome::Outcome;
@@ -37,9 +37,8 @@ fn send_shown(text: &[u8], scratch: &[u32], run: &mut [u32], sent: Sending, o: O
     ensures { Carries text.now scratch.now run.old run.new result (out_by text.now scratch.now run.old sent o.number) }
 {
     let n = sent.term;
-    let q = sent.after;
     let e = sent.over;
-    store(run, sent.place, q);
+    store(run, sent.place, sent.after);
     if n.kind == SEND_UNIT {
         let_go(run, e.channel);
         return Outcome::Carried(Seen::Close(o.number));
@@ -57,17 +56,16 @@ fn number_out(text: &[u8], scratch: &[u32], run: &mut [u32], m: u32, d: End, gon
     ensures { Becomes text.now scratch.now run.old run.new (numbered (config_in text.now scratch.now run.old) (end_as text.now scratch.now d) gone) }
 {
     set_given(run, m + 1);
-    if gone {
-        return;
+    if !gone {
+        append_outside(
+            run,
+            Outside {
+                number: m,
+                node: d.node,
+                channel: d.channel,
+            },
+        );
     }
-    append_outside(
-        run,
-        Outside {
-            number: m,
-            node: d.node,
-            channel: d.channel,
-        },
-    );
 }
 
 // The end d is passed out under the number m, over the outside's channel o, which says the type that it then has.
@@ -88,15 +86,14 @@ fn pass_numbered(
     requires end_in { EndIn text.now scratch.now (end_in d) }
     ensures { Carries text.now scratch.now run.old run.new result (passed_by text.now scratch.now run.old sent o.number d gone) }
 {
-    let n = sent.term;
-    let q = sent.after;
-    let e = sent.over;
-    let left = after_message(text, scratch, n, o.node as usize);
+    let left = after_message(text, scratch, sent.term, o.node as usize);
     let what = came_over(text, scratch, o.node as usize, d.node as usize);
-    let mut out = d;
-    out.node = what as u32;
-    store(run, sent.place, q);
-    retype_outside(run, e.channel, left as u32);
+    let out = End {
+        node: what as u32,
+        ..d
+    };
+    store(run, sent.place, sent.after);
+    retype_outside(run, sent.over.channel, left as u32);
     number_out(text, scratch, run, m, out, gone);
     Outcome::Carried(Seen::Passed(o.number, m, gone))
 }
@@ -110,11 +107,7 @@ fn pass_out(text: &[u8], scratch: &[u32], run: &mut [u32], sent: Sending, o: Out
     requires kind_value { sent.term.kind ≡ send_channel_kind }
     ensures { Carries text.now scratch.now run.old run.new result (out_by text.now scratch.now run.old sent o.number) }
 {
-    let n = sent.term;
-    let p = sent.before;
-    let h = p.held;
-    let f = find_end(text, h, n.second);
-    let Lookup::Found(d) = f else {
+    let Some(d) = find_end(text, sent.before.held, sent.term.second) else {
         return Outcome::NotOpen;
     };
     let m = given(run);
@@ -141,9 +134,9 @@ pub(crate) fn send_out(
     ensures { Carries text.now scratch.now run.old run.new result (sending_by text.now scratch.now run.old sent) }
 {
     let o = outside_at(run, k);
-    let n = sent.term;
-    if n.kind == SEND_CHANNEL {
-        return pass_out(text, scratch, run, sent, o);
+    if sent.term.kind == SEND_CHANNEL {
+        pass_out(text, scratch, run, sent, o)
+    } else {
+        send_shown(text, scratch, run, sent, o)
     }
-    send_shown(text, scratch, run, sent, o)
 }

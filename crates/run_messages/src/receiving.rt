@@ -7,18 +7,17 @@ ghost use Rattle.read_tables.specs.Program.{program_in};
 ghost use Rattle.run_words.specs.declared.records.Far.TheVariants as far;
 ghost use Rattle.run_alone.specs.Run.{config_in, process_as, RunOf, StandsAt, Carries};
 ghost use Rattle.run_alone.specs.Forwarding.{far_raw};
-ghost use Rattle.run_messages.specs.Receiving.{receiving_by, FarAt, Answers};
+ghost use Rattle.run_messages.specs.Receiving.{receiving_by, Answers};
+ghost use Rattle.run_messages.specs.Parties.{FarAt};
 
-use crate::messages::{IDLE, turn_on};
+use crate::messages::party_at;
 use crate::sending::send;
 use calculus::answers::Seen;
-use check_contexts::held::{Lookup, drop_end, find_end};
-use notation::kinds::SEND_LABEL;
+use check_contexts::held::{drop_end, find_end};
+use notation::kinds::{SEND_LABEL, SEND_UNIT};
 use run_alone::handlers::start_handler;
 use run_alone::outcome::Outcome;
 use run_words::far::far_end_near;
-use run_words::held::end_at;
-use run_words::processes::load;
 use run_words::records::{End, FOLDING, Far, Process};
 
 // The far end is at position k of what the process at place j holds: the step is that process' send, if it sends there.
@@ -28,18 +27,14 @@ fn answer(text: &[u8], scratch: &[u32], run: &mut [u32], j: usize, k: usize) -> 
     requires far_at { FarAt text.now scratch.now run.old j k }
     ensures { Answers text.now scratch.now run.old run.new j k result }
 {
-    let r = load(run, j);
-    let h = r.held;
-    let y = end_at(h, k);
-    let x = y.name as usize;
-    let t = turn_on(text, scratch, r.kind, r.pointer, x);
-    if t.kind == IDLE {
+    let Some(from) = party_at(text, scratch, run, j, k) else {
+        return Outcome::NotOpen;
+    };
+    let n = from.term;
+    if n.kind < SEND_UNIT || SEND_LABEL < n.kind {
         return Outcome::NotOpen;
     }
-    if SEND_LABEL < t.kind {
-        return Outcome::NotOpen;
-    }
-    send(text, scratch, run, j, r, t)
+    send(text, scratch, run, from.place, from.process, n)
 }
 
 // "a recv drops its channel in that step and folds up; if its process is linked, the handler starts in that step, as by a raise, and the process folds up without the link".
@@ -57,11 +52,12 @@ fn receive_nothing(
     requires e_value { far_raw text.now scratch.now run.old e ≡ far.GivenUp }
     ensures { Carries text.now scratch.now run.old run.new result (receiving_by text.now scratch.now run.old place p c e) }
 {
-    let h = p.held;
-    let held = drop_end(text, h, c);
-    let mut q = p;
-    q.kind = FOLDING;
-    q.held = held;
+    let held = drop_end(text, p.held, c);
+    let q = Process {
+        kind: FOLDING,
+        held,
+        ..p
+    };
     start_handler(text, scratch, run, place, q);
     Outcome::Carried(Seen::Nothing)
 }
@@ -80,15 +76,12 @@ pub fn receive(
     requires well_formed { WellFormed (program_in text.now scratch.now) (config_in text.now scratch.now run.old) }
     ensures { Carries text.now scratch.now run.old run.new result (receive (program_in text.now scratch.now) (config_in text.now scratch.now run.old) place (process_as text.now scratch.now p) (name_in text.now c)) }
 {
-    let h = p.held;
-    let f = find_end(text, h, c);
-    let Lookup::Found(e) = f else {
+    let Some(e) = find_end(text, p.held, c) else {
         return Outcome::NotOpen;
     };
-    let g = far_end_near(run, place, e.channel, e.side);
-    match g {
-        Far::Process(j, k) => return answer(text, scratch, run, j, k),
-        Far::Outside(k) => return Outcome::NotOpen,
-        Far::GivenUp => return receive_nothing(text, scratch, run, place, p, c, e),
+    match far_end_near(run, place, e.channel, e.side) {
+        Far::Process(j, k) => answer(text, scratch, run, j, k),
+        Far::Outside(_) => Outcome::NotOpen,
+        Far::GivenUp => receive_nothing(text, scratch, run, place, p, c, e),
     }
 }

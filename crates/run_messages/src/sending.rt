@@ -12,7 +12,7 @@ use crate::meeting::meet;
 use crate::messages::{Sending, after_send};
 use crate::outward::send_out;
 use calculus::answers::Seen;
-use check_contexts::held::{Lookup, find_end};
+use check_contexts::held::find_end;
 use notation::kinds::SEND_CHANNEL;
 use notation::reading::TermNode;
 use run_alone::outcome::Outcome;
@@ -28,18 +28,14 @@ fn send_unheard(text: &[u8], scratch: &[u32], run: &mut [u32], sent: Sending) ->
     ensures { Carries text.now scratch.now run.old run.new result (unheard_by text.now scratch.now run.old sent) }
 {
     let n = sent.term;
-    let q = sent.after;
-    if n.kind == SEND_CHANNEL {
-        let p = sent.before;
-        let h = p.held;
-        let f = find_end(text, h, n.second);
-        let Lookup::Found(d) = f else {
-            return Outcome::NotOpen;
-        };
-        return part(text, scratch, run, sent.place, q, d);
+    if n.kind != SEND_CHANNEL {
+        store(run, sent.place, sent.after);
+        return Outcome::Carried(Seen::Nothing);
     }
-    store(run, sent.place, q);
-    Outcome::Carried(Seen::Nothing)
+    match find_end(text, sent.before.held, n.second) {
+        Some(d) => part(text, scratch, run, sent.place, sent.after, d),
+        None => Outcome::NotOpen,
+    }
 }
 
 // The process has sent; who is at the far end?
@@ -51,11 +47,10 @@ fn deliver(text: &[u8], scratch: &[u32], run: &mut [u32], sent: Sending) -> Outc
     ensures { Carries text.now scratch.now run.old run.new result (sending_by text.now scratch.now run.old sent) }
 {
     let e = sent.over;
-    let f = far_end_near(run, sent.place, e.channel, e.side);
-    match f {
-        Far::Process(j, k) => return meet(text, scratch, run, sent, j, k),
-        Far::Outside(k) => return send_out(text, scratch, run, sent, k),
-        Far::GivenUp => return send_unheard(text, scratch, run, sent),
+    match far_end_near(run, sent.place, e.channel, e.side) {
+        Far::Process(j, k) => meet(text, scratch, run, sent, j, k),
+        Far::Outside(k) => send_out(text, scratch, run, sent, k),
+        Far::GivenUp => send_unheard(text, scratch, run, sent),
     }
 }
 
@@ -74,16 +69,16 @@ pub fn send(
     requires well_formed { WellFormed (program_in text.now scratch.now) (config_in text.now scratch.now run.old) }
     ensures { Carries text.now scratch.now run.old run.new result (send_by text.now scratch.now run.old place p n) }
 {
-    let h = p.held;
-    let f = find_end(text, h, n.first);
-    let Lookup::Found(e) = f else {
+    let Some(e) = find_end(text, p.held, n.first) else {
         return Outcome::NotOpen;
     };
-    let held = after_send(text, scratch, h, n);
-    let mut after = p;
-    after.kind = RUNNING;
-    after.pointer = n.third as u32;
-    after.held = held;
+    let held = after_send(text, scratch, p.held, n);
+    let after = Process {
+        kind: RUNNING,
+        pointer: n.third as u32,
+        held,
+        ..p
+    };
     deliver(
         text,
         scratch,

@@ -8,79 +8,65 @@ ghost use Rattle.run_words.specs.Values.{value_of};
 ghost use Rattle.check_contexts.specs.Held.{Sees};
 ghost use Rattle.run_alone.specs.Run.{config_in, RunOf};
 ghost use Rattle.run_messages.specs.Kinds.{send_label_kind, send_unit_kind};
-ghost use Rattle.run_messages.specs.Waiting.{PartnerOf, NoSend, Awaits, AwaitsRecv};
+ghost use Rattle.run_messages.specs.Waiting.{AwaitsOther, Awaits, AwaitsRecv};
 
 use crate::meeting::RECEIVES;
-use crate::messages::{IDLE, turn_on};
-use check_contexts::held::Lookup;
-use notation::kinds::SEND_LABEL;
+use crate::messages::turn_on;
+use notation::kinds::{SEND_LABEL, SEND_UNIT};
 use notation::reading::TermNode;
 use notation::token::{has_name, name_length};
 use notation::words::wide;
 use run_words::far::far_end_near;
 use run_words::processes::{doing, held_count, held_end};
-use run_words::records::Far;
+use run_words::records::{End, Far};
 
 // The channel of the process at a place whose name is the one at `at`.
-fn end_named(text: &[u8], run: &[u32], i: usize, at: usize) -> Lookup
+fn end_named(text: &[u8], run: &[u32], i: usize, at: usize) -> Option<End>
     requires run_words_in_bounds { (run_words ≤ length run.now) × (i < process_places) }
     requires i_bound { held_count run.now i ≤ held_limit }
     ensures { Sees text.now (value_of run.now i).held at result }
 {
     let n = held_count(run, i);
     let m = name_length(text, at);
-    let mut k: usize = 0;
-    while k < n {
+    for k in 0..n {
         let e = held_end(run, i, k);
         let there = wide(e.name);
         if has_name(text, at, m, there) {
-            return Lookup::Found(e);
+            return Some(e);
         }
-        k += 1;
     }
-    Lookup::Nothing
+    None
 }
 
-// The process at the far end of a channel, by the kind of its turn on that channel (IDLE if it has none); or no process is there.
-#[derive(Clone, Copy)]
-pub(crate) enum Partner {
-    Turns(usize),
-    Nobody,
-}
-
-// The partner on the channel c of the process at a place.
-fn partner_of(text: &[u8], scratch: &[u32], run: &[u32], place: usize, c: usize) -> Partner
+// Whether a process is at the far end of the channel c of the process at a place, and its turn there is not of a kind from `first` to `last`.
+fn awaits(
+    text: &[u8],
+    scratch: &[u32],
+    run: &[u32],
+    place: usize,
+    c: usize,
+    first: usize,
+    last: usize,
+) -> bool
     requires run_of { RunOf text.now scratch.now run.now }
     requires well_formed { WellFormed (program_in text.now scratch.now) (config_in text.now scratch.now run.now) }
     requires place_in_bounds { place < length (raw_in run.now).processes }
-    ensures { PartnerOf text.now scratch.now run.now place c result }
+    requires send_unit_kind_le_first { send_unit_kind ≤ first }
+    ensures { AwaitsOther text.now scratch.now run.now place c first last result }
 {
-    let f = end_named(text, run, place, c);
-    let Lookup::Found(e) = f else {
-        return Partner::Nobody;
+    let Some(e) = end_named(text, run, place, c) else {
+        return false;
     };
-    let g = far_end_near(run, place, e.channel, e.side);
-    let Far::Process(j, k) = g else {
-        return Partner::Nobody;
+    let Far::Process(j, k) = far_end_near(run, place, e.channel, e.side) else {
+        return false;
     };
     let y = held_end(run, j, k);
     let d = doing(run, j);
     let x = y.name as usize;
-    let t = turn_on(text, scratch, d.kind, d.pointer, x);
-    Partner::Turns(t.kind)
-}
-
-// Whether no send is of this kind.
-fn is_no_send(kind: usize) -> bool
-    ensures { NoSend kind result }
-{
-    if kind == IDLE {
-        return true;
+    match turn_on(text, scratch, d.kind, d.pointer, x) {
+        Some(t) => t.kind < first || last < t.kind,
+        None => true,
     }
-    if SEND_LABEL < kind {
-        return true;
-    }
-    false
 }
 
 // Whether a recv on the channel c of the process at a place waits for the send of another.
@@ -90,11 +76,7 @@ pub fn awaits_send(text: &[u8], scratch: &[u32], run: &[u32], place: usize, c: u
     requires place_in_bounds { place < length (raw_in run.now).processes }
     ensures { Awaits text.now scratch.now run.now place c result }
 {
-    let f = partner_of(text, scratch, run, place, c);
-    let Partner::Turns(kind) = f else {
-        return false;
-    };
-    is_no_send(kind)
+    awaits(text, scratch, run, place, c, SEND_UNIT, SEND_LABEL)
 }
 
 // Whether the send n of the process at a place waits for the recv of another.
@@ -105,9 +87,6 @@ pub fn awaits_recv(text: &[u8], scratch: &[u32], run: &[u32], place: usize, n: T
     requires send_unit_kind_le_kind { (send_unit_kind ≤ n.kind) × (n.kind ≤ send_label_kind) }
     ensures { AwaitsRecv text.now scratch.now run.now place n result }
 {
-    let f = partner_of(text, scratch, run, place, n.first);
-    let Partner::Turns(kind) = f else {
-        return false;
-    };
-    kind != n.kind + RECEIVES
+    let kind = n.kind + RECEIVES;
+    awaits(text, scratch, run, place, n.first, kind, kind)
 }

@@ -1,5 +1,6 @@
 -- The step at a place: "Which rule applies is decided by the term's kind".
 use Rattle.std.specs.Prelude.{ℕ, zero, suc, ◌-◌, ◌≤◌, ◌<◌, ◌≡◌, refl, List, [], ◌∷◌, Bool, true, false, cond, not, length}
+use Rattle.std.specs.Prelude.{Some}
 use Rattle.std.proofs.Common.{sym, ◌∙◌, ap, arith}
 use Rattle.std.proofs.Math.Path.{subst}
 use Rattle.std.proofs.lemmas.Bool.{false≢true}
@@ -35,7 +36,7 @@ use Rattle.run_alone.specs.declared.outcome.Outcome.TheVariants.{NotOpen}
 use Rattle.run_alone.specs.Run.{config_in, doing_as, process_as, RunOf, StandsAt, Carries}
 use Rattle.run_alone.specs.Changes.{places_in}
 use Rattle.run_alone.specs.Spawning.{SpawnIn}
-use Rattle.run_messages.specs.Messages.{message_by, SendNode, label_small}
+use Rattle.run_messages.specs.Messages.{message_by, SendNode, RunsTerm, label_small}
 use Rattle.run_messages.specs.Sending.{send_by}
 use Rattle.run_messages.specs.Waiting.{Awaits, AwaitsRecv, value_stands}
 use Rattle.run_alone.specs.Calling.{CallIn, names_many}
@@ -243,8 +244,8 @@ module _ (s w old : List ℕ) (i : ℕ) (p : ProcessWords) (n : TermNode) (u : R
 
 -- ── the step at a place
 module _ (s w old : List ℕ) (t : RunOf s w old) (F : WellFormed (program_in s w) (config_in s w old)) (i : ℕ) (p : ProcessWords) (u : StandsAt s w old i p) where
-  pub node_rules : (n : TermNode) → p.kind ≡ running_kind → p.pointer < process_term_limit → TermOf w p.pointer n → RuledBy s w old i p n
-  node_rules n z b o = let (e, f) = node_ruled s w old t F i p u z n b o in record { is = e; facts = f; at = o.at }
+  pub node_rules : (n : TermNode) → RunsTerm w p.kind p.pointer (Some n) → RuledBy s w old i p n
+  node_rules n (z, b, o) = let (e, f) = node_ruled s w old t F i p u z n b o in record { is = e; facts = f; at = o.at }
 
   abbrev doing_by : ℕ → Outcome
   doing_by k = step_doing (program_in s w) (config_in s w old) i (process_as s w p) (doing_as s w k p.pointer)
@@ -263,12 +264,12 @@ waits_not = record { is = λ z. absurd (false≢true z) }
 
 -- the node of what the process at a place runs
 module _ {s w ws : List ℕ} {i : ℕ} (t : RunOf s w ws) (F : WellFormed (program_in s w) (config_in s w ws)) (b : i < length (raw_in ws).processes) (kind pointer : ℕ) (n : TermNode) (k : kind ≡ (value_of ws i).kind) (p : pointer ≡ (value_of ws i).pointer)
-    (z : kind ≡ running_kind) (l : pointer < process_term_limit) (o : TermOf w pointer n) where
+    (f : RunsTerm w kind pointer (Some n)) where
   runs_there : (value_of ws i).kind ≡ running_kind
-  runs_there = sym k ∙ z
+  runs_there = sym k ∙ f.0
 
   ruled_there : RuledBy s w ws i (value_of ws i) n
-  ruled_there = node_rules s w ws t F i (value_of ws i) (value_stands t i b) n runs_there (omega (arith, l, p)) (subst (λ m. TermOf w m n) p o)
+  ruled_there = node_rules s w ws t F i (value_of ws i) (value_stands t i b) n (runs_there, omega (arith, f.1, p), subst (λ m. TermOf w m n) p f.2)
 
   waits_as : {r : Bool} → (r ≡ true → Carries s w ws ws NotOpen (term_by s w ws i (value_of ws i))) → Waits s w ws i r
   waits_as a = record { is = λ y. steps_as s w ws t F i (value_of ws i) (value_stands t i b) 0 runs_there (a y) }

@@ -2,7 +2,7 @@
 use Prim.Native.Nat.{ℕ, zero, suc, ◌+◌, ◌-◌, ◌<◌}
 use Rattle.std.specs.Prelude.{◌≡◌, Bool, true, false, length}
 use Rattle.std.proofs.Math.Path.{refl, ap}
-use Rattle.std.proofs.Common.{sym, ◌∙◌, subst, true≢false, arith}
+use Rattle.std.proofs.Common.{sym, ◌∙◌, subst, true≢false, ◌⊎◌, inl, inr, arith}
 use mathlib.Core.List.{List, [], ◌∷◌}
 use Rattle.std.proofs.lemmas.Bool.{false≢true}
 use Rattle.std.proofs.Math.Option.{Option, some, none}
@@ -56,6 +56,10 @@ told_carried e = false≢true (ap is_uncaught e)
     is_uncaught outcome.Uncaught = true
     is_uncaught outcome.NotOpen = false
     is_uncaught outcome.Lacking = false
+
+not_taken : {a : OutcomeWords} → (a ≡ outcome.NotOpen) ⊎ (a ≡ outcome.Lacking) → was_carried a ≡ false
+not_taken (inl e) = ap was_carried e
+not_taken (inr e) = ap was_carried e
 
 -- what is shown, in the words of the theory
 something_shown : (seen : Seen) → shows seen ≡ true → Shows seen
@@ -200,9 +204,9 @@ module _ (s w old : List ℕ) (budget : ℕ) where
     full_then not_open c e = (c.is.1, refl)
     full_then lacking c e = (c.is.1, refl)
 
-    pub ends_full : {new : List ℕ} {a : OutcomeWords} → Carries s w ws new a (step_first P C) → was_carried a ≡ false → RunsOn s w old new (Full taken) (run_on P (config_in s w old) budget)
+    pub ends_full : {new : List ℕ} {a : OutcomeWords} → Carries s w ws new a (step_first P C) → (a ≡ outcome.NotOpen) ⊎ (a ≡ outcome.Lacking) → RunsOn s w old new (Full taken) (run_on P (config_in s w old) budget)
     ends_full {new} c e =
-        let f = full_then (step_first P C) c e in
+        let f = full_then (step_first P C) c (not_taken e) in
         subst (RunsOn s w old new (Full taken)) (sym (goes_on_lem ∙ f.1)) (record { answer = refl; becomes = subst (λ l. Becomes s w old l C) (sym f.0) r.becomes })
 
     -- the step left a run that goes on
@@ -230,15 +234,15 @@ module _ (s w old : List ℕ) (budget : ℕ) where
               },
             )
 
-    module _ {new : List ℕ} {a : OutcomeWords} {seen : Seen} (told : a ≡ outcome.Carried seen) (c : Carries s w ws new a (step_first P C)) (B : Bodies P) where
+    module _ {new : List ℕ} {seen : Seen} (c : Carries s w ws new (outcome.Carried seen) (step_first P C)) (B : Bodies P) where
       pub ends_shown : shows seen ≡ true → RunsOn s w old new (Shown seen (taken + 1)) (run_on P (config_in s w old) budget)
       ends_shown e =
-          let t = carried_then (choose_place P C) (subst (λ x. Carries s w ws new x (step_first P C)) told c) B in
+          let t = carried_then (choose_place P C) c B in
           subst (RunsOn s w old new (Shown seen (taken + 1))) (sym (goes_on_lem ∙ t.0 ∙ shown_ends P (budget - suc taken) (suc taken) seen (config_in s w new) t.1.going (something_shown seen e))) (record { answer = ap (Shown seen) (omega arith); becomes = becomes_on r.becomes t.1.becomes })
 
       pub running_on_lem : shows seen ≡ false → Running s w old new budget (taken + 1)
       running_on_lem e =
-          let t = carried_then (choose_place P C) (subst (λ x. Carries s w ws new x (step_first P C)) told c) B in
+          let t = carried_then (choose_place P C) c B in
           subst (Running s w old new budget) (omega arith) (record {
             becomes = becomes_on r.becomes t.1.becomes;
             formed = t.1.formed;
@@ -253,9 +257,9 @@ module _ (s w old : List ℕ) (budget : ℕ) where
     halted_then not_open c = absurd (true≢false (ap was_carried c.is.0))
     halted_then lacking c = absurd (true≢false (ap was_carried c.is.0))
 
-    pub ends_uncaught : {new : List ℕ} {a : OutcomeWords} → a ≡ outcome.Uncaught → Carries s w ws new a (step_first P C) → RunsOn s w old new (Uncaught (taken + 1)) (run_on P (config_in s w old) budget)
-    ends_uncaught {new} told c =
-        let t = halted_then (step_first P C) (subst (λ x. Carries s w ws new x (step_first P C)) told c) in
+    pub ends_uncaught : {new : List ℕ} → Carries s w ws new outcome.Uncaught (step_first P C) → RunsOn s w old new (Uncaught (taken + 1)) (run_on P (config_in s w old) budget)
+    ends_uncaught {new} c =
+        let t = halted_then (step_first P C) c in
         subst (RunsOn s w old new (Uncaught (taken + 1))) (sym (goes_on_lem ∙ t.1)) (record { answer = ap Uncaught (omega arith); becomes = becomes_on r.becomes t.0 })
 
   -- a run that has halted already

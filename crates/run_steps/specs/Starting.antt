@@ -1,5 +1,6 @@
 -- "Start makes one process, the exec process's body with its signature's channels."
 use Prim.Native.Nat.{ℕ, zero, suc, ◌+◌, ◌≤◌, ◌<◌}
+use Rattle.std.specs.Prelude.{Option as CodeOption, Some, None}
 use Rattle.std.specs.Prelude.{◌≡◌, List, [], ◌∷◌, ◌++◌, map, Bool, true, false, length}
 use Rattle.std.proofs.Math.Path.{refl, ap}
 use Rattle.std.proofs.Common.{sym, ◌∙◌, subst}
@@ -11,8 +12,6 @@ use Rattle.notation.specs.Limits.{held_limit, run_words}
 use Rattle.notation.specs.Token.{name_at}
 use Rattle.notation.specs.Reader.{name_in}
 use Rattle.notation.specs.Tree.{Name}
-use Rattle.notation.specs.declared.reading.Found.{Found}
-use Rattle.notation.specs.declared.reading.Found.TheVariants as found
 use Rattle.calculus.specs.Named.{lookup}
 use Rattle.calculus.specs.Types.{provided}
 use Rattle.calculus.specs.Program.{Signature, entries}
@@ -203,11 +202,11 @@ module _ (s w : List ℕ) (t : Tables s w) (d : Declared) (a : SignatureIn s w (
 pub begins_nowhere : (s w run : List ℕ) (line : ℕ) → (tally_in w).execs ≤ line → Begins s w run run false (exec_of (program_in s w) line)
 begins_nowhere s w run line h = subst (Begins s w run run false) (sym (no_line s w line h)) (record { is = (refl, refl) })
 
-module _ (s w old : List ℕ) (line at : ℕ) (h : line < (tally_in w).execs) (o : ExecOf w line at) {f : Found} (a : Sought (name_at s at) (program_in s w).processes (named_process s w) (tally_in w).processes f) where
-  pub begins_nothing : f ≡ found.Nothing → Begins s w old old false (exec_of (program_in s w) line)
+module _ (s w old : List ℕ) (line at : ℕ) (h : line < (tally_in w).execs) (o : ExecOf w line at) {f : CodeOption ℕ} (a : Sought (name_at s at) (program_in s w).processes (named_process s w) (tally_in w).processes f) where
+  pub begins_nothing : f ≡ None → Begins s w old old false (exec_of (program_in s w) line)
   begins_nothing e = subst (Begins s w old old false) (sym (exec_line s w line at h o ∙ a.is ∙ ap (λ x. Option.map (λ j. (named_process s w j).1) (place_of x)) e)) (record { is = (refl, refl) })
 
-  module _ (k : ℕ) (e : f ≡ found.At k) (d : Declared) (b : SignatureOf w k d) (t : Tables s w) (c : SmallSignatures (program_in s w)) where
+  module _ (k : ℕ) (e : f ≡ Some k) (d : Declared) (b : SignatureOf w k d) (t : Tables s w) (c : SmallSignatures (program_in s w)) where
     found_is : lookup (name_at s at) (program_in s w).processes ≡ some (signature_of s w (as_entry d))
     found_is = a.is ∙ ap (λ x. Option.map (λ j. (named_process s w j).1) (place_of x)) e ∙ ap (λ x. some x.1) (b.is s)
 

@@ -13,12 +13,7 @@ use run_words::processes::count;
 pub(crate) fn was_carried(r: Outcome) -> bool
     ensures { result ≡ was_carried r }
 {
-    match r {
-        Outcome::Carried(seen) => return true,
-        Outcome::Uncaught => return true,
-        Outcome::NotOpen => return false,
-        Outcome::Lacking => return false,
-    }
+    matches!(r, Outcome::Carried(_) | Outcome::Uncaught)
 }
 
 // The step at the first place where one can be carried out, or halts the run; not open where there is no such place. A step that is
@@ -30,13 +25,11 @@ pub(crate) fn step_first(text: &[u8], scratch: &[u32], run: &mut [u32]) -> Outco
     ensures { Carries text.now scratch.now run.old run.new result (step_first (program_in text.now scratch.now) (config_in text.now scratch.now run.old)) }
 {
     let n = count(run);
-    let mut i: usize = 0;
-    while i < n {
+    for i in 0..n {
         let r = step_at(text, scratch, run, i);
         if was_carried(r) {
             return r;
         }
-        i = i + 1;
     }
     Outcome::NotOpen
 }

@@ -12,8 +12,6 @@ use notation::kinds::{
     CALL, CANCEL, FWD, RAISE, RECV_LABEL, RECV_UNIT, SEND_LABEL, SEND_UNIT, SPAWN,
 };
 use notation::reading::TermNode;
-use notation::script::Script;
-use read_tables::access::term_node;
 use run_alone::calling::call;
 use run_alone::cancelling::cancel;
 use run_alone::folding::fold_up;
@@ -23,6 +21,7 @@ use run_alone::outcome::Outcome;
 use run_alone::raising::raise;
 use run_alone::spawning::{SpawnTerm, spawn};
 use run_alone::trying::try_both;
+use run_messages::messages::running_term;
 use run_messages::receiving::receive;
 use run_messages::sending::send;
 use run_messages::waiting::{awaits_recv, awaits_send};
@@ -44,12 +43,11 @@ fn step_ending(
     requires ruled_by { RuledBy text.now scratch.now run.old place p n × (fwd_kind ≤ n.kind) }
     ensures { Carries text.now scratch.now run.old run.new result (term_by text.now scratch.now run.old place p) }
 {
-    let kind = n.kind;
-    match kind {
-        FWD => return forward(text, scratch, run, place, p, n.first, n.second),
-        CALL => return call(text, scratch, run, place, p, n.first, n.second),
-        RAISE => return raise(text, scratch, run, place, p, n.third as u32),
-        _ => return try_both(
+    match n.kind {
+        FWD => forward(text, scratch, run, place, p, n.first, n.second),
+        CALL => call(text, scratch, run, place, p, n.first, n.second),
+        RAISE => raise(text, scratch, run, place, p, n.third as u32),
+        _ => try_both(
             text,
             scratch,
             run,
@@ -77,11 +75,10 @@ fn step_term(
     requires ruled_by { RuledBy text.now scratch.now run.old place p n }
     ensures { Carries text.now scratch.now run.old run.new result (term_by text.now scratch.now run.old place p) }
 {
-    let kind = n.kind;
-    match kind {
-        0 => return Outcome::NotOpen,
-        SEND_UNIT..=SEND_LABEL => return send(text, scratch, run, place, p, n),
-        CANCEL => return cancel(text, scratch, run, place, p, n.first, n.third as u32),
+    match n.kind {
+        0 => Outcome::NotOpen,
+        SEND_UNIT..=SEND_LABEL => send(text, scratch, run, place, p, n),
+        CANCEL => cancel(text, scratch, run, place, p, n.first, n.third as u32),
         SPAWN => {
             let m = SpawnTerm {
                 name: n.at as u32,
@@ -89,10 +86,10 @@ fn step_term(
                 first: n.second as u32,
                 second: n.third as u32,
             };
-            return spawn(text, scratch, run, place, p, m);
+            spawn(text, scratch, run, place, p, m)
         }
-        RECV_UNIT..=RECV_LABEL => return receive(text, scratch, run, place, p, n.first),
-        FWD.. => return step_ending(text, scratch, run, place, p, n),
+        RECV_UNIT..=RECV_LABEL => receive(text, scratch, run, place, p, n.first),
+        FWD.. => step_ending(text, scratch, run, place, p, n),
     }
 }
 
@@ -105,12 +102,10 @@ fn step_running(text: &[u8], scratch: &[u32], run: &mut [u32], place: usize, p: 
     requires kind_value { p.kind ≡ running_kind }
     ensures { Carries text.now scratch.now run.old run.new result (term_by text.now scratch.now run.old place p) }
 {
-    let at = p.pointer as usize;
-    if Script::PROCESS_TERMS <= at {
-        return leave(text, scratch, run, place, p);
+    match running_term(scratch, p.kind, p.pointer) {
+        Some(n) => step_term(text, scratch, run, place, p, n),
+        None => leave(text, scratch, run, place, p),
     }
-    let n = term_node(scratch, at);
-    step_term(text, scratch, run, place, p, n)
 }
 
 // Whether the process at a place runs a send or a recv that waits for its partner, told from the words: to load it would copy all that it holds.
@@ -121,19 +116,13 @@ fn is_waiting(text: &[u8], scratch: &[u32], run: &[u32], place: usize) -> bool
     ensures { Waits text.now scratch.now run.now place result }
 {
     let d = doing(run, place);
-    if d.kind != RUNNING {
+    let Some(n) = running_term(scratch, d.kind, d.pointer) else {
         return false;
-    }
-    let at = d.pointer as usize;
-    if Script::PROCESS_TERMS <= at {
-        return false;
-    }
-    let n = term_node(scratch, at);
-    let kind = n.kind;
-    match kind {
-        SEND_UNIT..=SEND_LABEL => return awaits_recv(text, scratch, run, place, n),
-        RECV_UNIT..=RECV_LABEL => return awaits_send(text, scratch, run, place, n.first),
-        _ => return false,
+    };
+    match n.kind {
+        SEND_UNIT..=SEND_LABEL => awaits_recv(text, scratch, run, place, n),
+        RECV_UNIT..=RECV_LABEL => awaits_send(text, scratch, run, place, n.first),
+        _ => false,
     }
 }
 
@@ -151,11 +140,9 @@ pub fn step_at(text: &[u8], scratch: &[u32], run: &mut [u32], place: usize) -> O
         return Outcome::NotOpen;
     }
     let p = load(run, place);
-    if p.kind == RUNNING {
-        return step_running(text, scratch, run, place, p);
+    match p.kind {
+        RUNNING => step_running(text, scratch, run, place, p),
+        FOLDING => fold_up(text, scratch, run, place, p),
+        _ => Outcome::NotOpen,
     }
-    if p.kind == FOLDING {
-        return fold_up(text, scratch, run, place, p);
-    }
-    Outcome::NotOpen
 }

@@ -9,7 +9,7 @@ ghost use Rattle.read_tables.specs.Program.{program_in};
 ghost use Rattle.run_alone.specs.Run.{config_in, RunOf};
 ghost use Rattle.run_steps.specs.Dispatch.{SmallSignatures};
 ghost use Rattle.run_steps.specs.Running.{shows, RunsOn};
-ghost use Rattle.run_steps.specs.Within.{RunsWithin};
+ghost use Rattle.run_steps.specs.Within.{RunsBy};
 
 use crate::choosing::step_first;
 use crate::trials::can_go_on;
@@ -18,52 +18,35 @@ use run_alone::outcome::Outcome;
 use run_words::halting::is_halted;
 use run_words::processes::count;
 
-// How the steps of a budget end: by an answer, or with the budget spent and nothing shown.
-#[derive(Clone, Copy)]
-pub enum Within {
-    Ended(RanOn),
-    Spent,
-}
-
 fn shows(seen: Seen) -> bool
     ensures { result ≡ shows seen }
 {
-    match seen {
-        Seen::Nothing => return false,
-        Seen::Label(_, _) => return true,
-        Seen::Close(_) => return true,
-        Seen::Passed(_, _, _) => return true,
-        Seen::Cancelled(_) => return true,
-    }
+    !matches!(seen, Seen::Nothing)
 }
 
-// The steps of a budget, in a run that has not halted.
-fn steps_within(text: &[u8], scratch: &[u32], run: &mut [u32], budget: u32) -> Within
+// The steps of a budget, in a run that has not halted; no answer where it is spent and nothing was shown.
+fn steps_within(text: &[u8], scratch: &[u32], run: &mut [u32], budget: u32) -> Option<RanOn>
     requires run_of { RunOf text.now scratch.now run.old }
     requires well_formed { WellFormed (program_in text.now scratch.now) (config_in text.now scratch.now run.old) }
     requires bodies { Bodies (program_in text.now scratch.now) }
     requires run_value { (config_in text.now scratch.now run.old).halted ≡ false }
-    ensures { RunsWithin text.now scratch.now run.old run.new budget result }
+    ensures { RunsBy text.now scratch.now run.old run.new budget result }
 {
-    let mut taken: u32 = 0;
-    while taken < budget {
+    for taken in 0..budget {
         if count(run) == 0 {
-            return Within::Ended(RanOn::Done(taken));
+            return Some(RanOn::Done(taken));
         }
-        let o = step_first(text, scratch, run);
-        match o {
+        match step_first(text, scratch, run) {
             Outcome::Carried(seen) => {
-                taken = taken + 1;
                 if shows(seen) {
-                    return Within::Ended(RanOn::Shown(seen, taken));
+                    return Some(RanOn::Shown(seen, taken + 1));
                 }
             }
-            Outcome::Uncaught => return Within::Ended(RanOn::Uncaught(taken + 1)),
-            Outcome::NotOpen => return Within::Ended(RanOn::Full(taken)),
-            Outcome::Lacking => return Within::Ended(RanOn::Full(taken)),
+            Outcome::Uncaught => return Some(RanOn::Uncaught(taken + 1)),
+            Outcome::NotOpen | Outcome::Lacking => return Some(RanOn::Full(taken)),
         }
     }
-    Within::Spent
+    None
 }
 
 // With the budget spent, the tests before the next step of a run that has not halted: no process is left, none can be carried out.
@@ -93,9 +76,8 @@ pub fn steps_until(text: &[u8], scratch: &[u32], run: &mut [u32], budget: u32) -
     if is_halted(run) {
         return RanOn::Uncaught(0);
     }
-    let a = steps_within(text, scratch, run, budget);
-    let Within::Ended(r) = a else {
-        return spent(text, scratch, run, budget);
-    };
-    r
+    match steps_within(text, scratch, run, budget) {
+        Some(r) => r,
+        None => spent(text, scratch, run, budget),
+    }
 }

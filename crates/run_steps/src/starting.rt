@@ -14,13 +14,12 @@ ghost use Rattle.run_steps.specs.Dispatch.{SmallSignatures};
 ghost use Rattle.run_steps.specs.Starting.{start_channel, start_raw, Begins};
 
 use check_contexts::signatures::with_entries;
-use notation::reading::Found;
 use read_tables::access::{Declared, declared_process, entry, exec_at, exec_count};
 use read_tables::search::find_process;
 use run_words::held::no_ends;
 use run_words::outside::{append_outside, set_given};
 use run_words::places::begin;
-use run_words::records::{NEW, Outside, PROVIDED, Process, RUNNING, UNLINKED};
+use run_words::records::{Outside, PROVIDED, Process, RUNNING, UNLINKED};
 
 // "The outside uses these channels, numbered from 0 in list order."
 fn use_channels(scratch: &[u32], run: &mut [u32], first: usize, n: usize)
@@ -29,8 +28,7 @@ fn use_channels(scratch: &[u32], run: &mut [u32], first: usize, n: usize)
     ensures changed { Changed run.old run.new (on_outside (λ l. l ++ tab (start_channel scratch.now first) n) (raw_in run.old)) }
     ensures bounded { Bounded (raw_in run.new) }
 {
-    let mut number: usize = 0;
-    while number < n {
+    for number in 0..n {
         let e = entry(scratch, first + number);
         append_outside(
             run,
@@ -40,7 +38,6 @@ fn use_channels(scratch: &[u32], run: &mut [u32], first: usize, n: usize)
                 channel: number as u32,
             },
         );
-        number += 1;
     }
 }
 
@@ -53,11 +50,12 @@ fn begin_process(scratch: &[u32], run: &mut [u32], d: Declared)
 {
     let none = no_ends();
     let held = with_entries(scratch, none, d.first, d.provided, PROVIDED);
-    let mut first = NEW;
-    first.kind = RUNNING;
-    first.pointer = d.body as u32;
-    first.link = UNLINKED;
-    first.held = held;
+    let first = Process {
+        kind: RUNNING,
+        pointer: d.body as u32,
+        link: UNLINKED,
+        held,
+    };
     begin(run, first);
     use_channels(scratch, run, d.first, d.provided);
     set_given(run, d.provided as u32);
@@ -74,8 +72,7 @@ pub fn begin_line(text: &[u8], scratch: &[u32], run: &mut [u32], line: usize) ->
         return false;
     }
     let at = exec_at(scratch, line);
-    let f = find_process(text, scratch, at);
-    let Found::At(k) = f else {
+    let Some(k) = find_process(text, scratch, at) else {
         return false;
     };
     let d = declared_process(scratch, k);

@@ -17,7 +17,6 @@ use crate::dispatch::step_at;
 use notation::script::Script;
 use run_alone::outcome::Outcome;
 use run_words::halting::is_halted;
-use run_words::words::copy_words;
 
 // The words of a run.
 fn copy_of(run: &[u32]) -> [u32; Script::RUN_WORDS]
@@ -25,7 +24,7 @@ fn copy_of(run: &[u32]) -> [u32; Script::RUN_WORDS]
     ensures { CopyOf run.now result }
 {
     let mut w = [0u32; Script::RUN_WORDS];
-    copy_words(run, 0, &mut w, 0, Script::RUN_WORDS);
+    w.copy_from_slice(&run[..Script::RUN_WORDS]);
     w
 }
 
@@ -37,8 +36,7 @@ pub(crate) fn can_go_on(text: &[u8], scratch: &[u32], run: &[u32]) -> bool
     ensures { result ≡ is_some (choose_place (program_in text.now scratch.now) (config_in text.now scratch.now run.now)) }
 {
     let mut copy = copy_of(run);
-    let o = step_first(text, scratch, &mut copy);
-    was_carried(o)
+    was_carried(step_first(text, scratch, &mut copy))
 }
 
 // What a step's outcome says of its place, in a run that has not halted: not open 0, open 1, open but lacking 2.
@@ -46,10 +44,9 @@ fn openness(o: Outcome) -> u32
     ensures { result ≡ openness_by o }
 {
     match o {
-        Outcome::Carried(seen) => return 1,
-        Outcome::Uncaught => return 1,
-        Outcome::NotOpen => return 0,
-        Outcome::Lacking => return 2,
+        Outcome::NotOpen => 0,
+        Outcome::Carried(_) | Outcome::Uncaught => 1,
+        Outcome::Lacking => 2,
     }
 }
 
@@ -64,6 +61,5 @@ pub fn openness_at(text: &[u8], scratch: &[u32], run: &[u32], place: usize) -> u
         return 0;
     }
     let mut copy = copy_of(run);
-    let o = step_at(text, scratch, &mut copy, place);
-    openness(o)
+    openness(step_at(text, scratch, &mut copy, place))
 }

@@ -1,8 +1,7 @@
 -- Processes of which typing says the same: it looks at what a process does, and the names, sides and types of what it holds.
-use Rattle.std.specs.Prelude.{ℕ, suc, ◌+◌, ◌≤◌, ◌<◌, ◌≡◌, refl, List, [], ◌∷◌, length}
-use Rattle.std.proofs.Common.{sym, ◌∙◌, ap, subst, arith}
-use Rattle.std.proofs.Math.Option.{some, some-injective}
-use Rattle.std.proofs.Math.Decide.{ℕ_discrete}
+use Rattle.std.specs.Prelude.{ℕ, suc, ◌≤◌, ◌<◌, ◌≡◌, refl, List, [], ◌∷◌, length}
+use Rattle.std.proofs.Common.{arith}
+use Rattle.std.proofs.Math.Option.{some}
 use Rattle.std.proofs.Math.ListN.{get_elem?}
 use Rattle.notation.specs.Token.{name_at}
 use Rattle.calculus.specs.Program.{slot}
@@ -54,16 +53,6 @@ pub record Matching (l m : List RawEnd) (k : ℕ) : Type 0 where
 module _ (l m : List RawEnd) where
   pub matching_none : length l ≡ length m → Matching l m 0
   matching_none h = record { many = h; each = λ j e f b. absurd (omega (arith, b)) }
-
-  pub matching_on : {k : ℕ} {e f : RawEnd} → Matching l m k → get_elem? l k ≡ some e → get_elem? m k ≡ some f → EndsMatch e f → Matching l m (k + 1)
-  matching_on {k} {e} {f} a p q h = record { many = a.many; each = λ j x y b. go j x y (ℕ_discrete j k) b }
-    where
-      go : (j : ℕ) (x y : RawEnd) → Dec (j ≡ k) → j < k + 1 → get_elem? l j ≡ some x → get_elem? m j ≡ some y → EndsMatch x y
-      go j x y (yes z) b u v =
-          let same_e : e ≡ x = some-injective e x (sym p ∙ ap (get_elem? l) (sym z) ∙ u) in
-          let same_f : f ≡ y = some-injective f y (sym q ∙ ap (get_elem? m) (sym z) ∙ v) in
-          subst (λ x. EndsMatch x y) same_e (subst (EndsMatch e) same_f h)
-      go j x y (no z) b u v = a.each j x y (omega (arith, b, z)) u v
 
   pub matching_all : {k : ℕ} → Matching l m k → length l ≤ k → HeldMatch l m
   matching_all {k} a h = record { many = a.many; each = λ j e f p q. a.each j e f (let b = below_length l j p in omega (arith, b, h)) p q }

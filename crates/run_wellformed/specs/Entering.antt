@@ -1,11 +1,9 @@
 -- Ends as the code takes them: by the numbers of their words, and from lists by position.
-use Rattle.std.specs.Prelude.{ℕ, zero, suc, ◌+◌, ◌*◌, ◌-◌, ◌<◌, ◌≡◌, refl, List, [], ◌∷◌, ◌++◌, map, Bool, true, false, cond, length, get_or, set, drop}
+use Rattle.std.specs.Prelude.{ℕ, zero, suc, ◌+◌, ◌-◌, ◌<◌, ◌≡◌, refl, List, [], ◌∷◌, ◌++◌, map, Bool, true, false, cond, length, get_or, set, drop}
 use Rattle.std.proofs.Common.{sym, ◌∙◌, ap, subst, arith, add-one, eq-eqb, ne_eqb}
 use Rattle.std.proofs.Math.Option.{some}
 use Rattle.std.proofs.Math.ListN.{get_elem?}
 use Rattle.calculus.specs.Types.{other}
-use Rattle.calculus.specs.SameType.{same_type}
-use Rattle.read_tables.specs.Program.{plain_in, program_in}
 use Rattle.run_words.specs.ListLaws.{drop_at}
 use Rattle.run_words.specs.Raw.{RawEnd, RawProcess, RawOutside, side_of}
 use Rattle.run_words.specs.Values.{end_in}
@@ -13,23 +11,10 @@ use Rattle.run_words.specs.declared.records.End.{End}
 use Rattle.run_wellformed.specs.Kept.{keys, place_of, far_same, fits, Entered, misfit, added, process_ends, outside_end}
 
 -- ── words of an end
-pub place_so : (c x : ℕ) → x < 2 → 2 * c + x ≡ place_of c (side_of x)
-place_so c zero h = refl
-place_so c (suc zero) h = refl
-place_so c (suc (suc x)) h = absurd (omega arith)
-
 other_side : (x : ℕ) → x < 2 → side_of (1 - x) ≡ other (side_of x)
 other_side zero h = refl
 other_side (suc zero) h = refl
 other_side (suc (suc x)) h = absurd (omega arith)
-
-module _ (s w : List ℕ) where
-  pub far_none : (node kept : ℕ) → kept ≡ 0 → true ≡ far_same s w node kept
-  far_none node kept e = rw e refl
-
-  pub far_kept : (node kept : ℕ) → (kept ≡ 0 → ⊥) → {a b : ℕ} {r : Bool} → a ≡ node → b ≡ kept - 1 → r ≡ same_type (program_in s w).types (plain_in s w a) (plain_in s w b) → r ≡ far_same s w node kept
-  far_kept node zero d p q e = absurd (d refl)
-  far_kept node (suc n) d p q e = let z : suc n - 1 ≡ n = omega arith in e ∙ (λ i. same_type (program_in s w).types (plain_in s w (p i)) (plain_in s w ((q ∙ z) i)))
 
 -- ── the words of an end's key and of its far end's are read
 module _ (s w ws : List ℕ) (e : End) (short : e.channel < 512) (two : e.side < 2) (here : ℕ) (p : here ≡ place_of e.channel (side_of e.side)) where

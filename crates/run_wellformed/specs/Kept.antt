@@ -1,7 +1,7 @@
 -- Ends of channels, taken one after another: each must fit those kept so far, of which a word for each key tells the type.
 use Rattle.std.specs.Prelude.{ℕ, zero, suc, ◌+◌, ◌*◌, ◌≤◌, ◌<◌, ◌≡◌, ◌⊎◌, ◌≢◌, Bool, not, ◌&&◌, eqb, length, get_or, set, replicate}
 use Rattle.std.proofs.Math.Path.{refl, ap}
-use Rattle.std.proofs.Common.{sym, ◌∙◌, subst, inl, inr, arith, eq-eqb, ne_eqb, length-set, get_or-set_same, get_or-set_other}
+use Rattle.std.proofs.Common.{sym, ◌∙◌, subst, inl, inr, arith, eq-eqb, ne_eqb, get_or-set_same, get_or-set_other}
 use mathlib.Core.List.{List, [], ◌∷◌, ◌++◌, map, append-nil, append_assoc}
 use Rattle.std.proofs.Math.Bool.{true, false, So, cond}
 use Rattle.std.proofs.lemmas.List.{length-replicate}
@@ -198,13 +198,6 @@ module _ (s w : List ℕ) where
   pub kept_none : Kept w (replicate keys 0)
   kept_none = record { long = length-replicate {A = ℕ} keys 0; each = λ k. omega (arith, zeros keys k) }
 
-  pub kept_more : (ws : List ℕ) (i n : ℕ) → Kept w ws → i < keys → n ≤ (tally_in w).nodes → Kept w (set ws i n)
-  kept_more ws i n t b h = record { long = length-set ws i n ∙ t.long; each = λ k. go k (decides_cases eqb_decides k i) }
-    where
-      go : (k : ℕ) → (So (eqb k i) × (k ≡ i)) ⊎ ((eqb k i ≡ false) × (k ≢ i)) → get_or (set ws i n) k 0 ≤ (tally_in w).nodes
-      go k (inl e) = rw e.1 (omega (arith, get_or-set_same ws i n 0 (omega (arith, t.long))))
-      go k (inr e) = omega (arith, get_or-set_other ws i k n 0 e.1, t.each k)
-
   -- ── one after another
   pub entered_none : (ws : List ℕ) → Entered ws ws [] true
   entered_none ws = record { is = λ seen k. (seen, k, λ rest. refl) }
@@ -240,9 +233,6 @@ module _ (s w : List ℕ) where
   -- a loop over the ends l has kept some, and m are left
   pub record Left (old now : List ℕ) (l m : List RawEnd) : Type 0 where
     pub rest : (new : List ℕ) (r : Bool) → Entered now new m r → Entered old new l r
-
-  pub left_start : (ws : List ℕ) (l : List RawEnd) → Left ws ws l l
-  left_start ws l = record { rest = λ new r p. p }
 
   module _ {old now : List ℕ} {l m : List RawEnd} (t : Left old now l m) where
     pub left_next : {next : List ℕ} {b : Bool} (x y : List RawEnd) → m ≡ x ++ y → b ≡ true → Entered now next x b → Left old next l y

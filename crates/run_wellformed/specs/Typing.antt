@@ -1,18 +1,19 @@
 -- Typing of processes: the names that one holds are distinct, and the check finds nothing at fault.
-use Rattle.std.specs.Prelude.{ℕ, zero, suc, ◌≤◌, ◌≡◌, refl, List, [], ◌∷◌, Bool, true, false, cond, ◌&&◌, length}
+use Rattle.std.specs.Prelude.{ℕ, zero, suc, ◌≤◌, ◌≡◌, refl, List, [], ◌∷◌, Bool, true, false, cond, length}
+use Rattle.std.specs.Prelude.{Option as CodeOption, Some, None}
+use Rattle.std.specs.Option.{is_some as found}
 use Rattle.std.proofs.Common.{sym, ◌∙◌, arith}
 use Rattle.std.proofs.Math.Path.{ap}
 use Rattle.std.proofs.Math.Option.{Option, some}
 use Rattle.std.proofs.Math.ListN.{get_elem?}
 use Rattle.notation.specs.Bytes.{same}
 use Rattle.notation.specs.Token.{name_at}
-use Rattle.notation.specs.Tree.{Name, Proc}
+use Rattle.notation.specs.Tree.{Name}
 use Rattle.calculus.specs.Named.{lookup, names, distinct, is_some, any_of}
 use Rattle.calculus.specs.Program.{Program}
 use Rattle.calculus.specs.Configuration.{End, Process}
-use Rattle.calculus.specs.Checking.{check}
 use Rattle.calculus.specs.WellFormed.{context_of}
-use Rattle.theory_decision.specs.Decide.{is_fine, typed?, typed_as?}
+use Rattle.theory_decision.specs.Decide.{typed?, typed_as?}
 use Rattle.read_tables.specs.Decode.{process_in}
 use Rattle.read_tables.specs.Program.{plain_in, program_in}
 use Rattle.run_words.specs.Lists.{remove_at}
@@ -22,10 +23,6 @@ use Rattle.run_words.specs.Values.{held_in, held_length}
 use Rattle.run_words.specs.declared.records.End.{End as EndWords}
 use Rattle.run_words.specs.declared.records.Held.{Held}
 use Rattle.check_contexts.specs.Held.{end_is, ends_in, channels_of, end_found, Sees}
-use Rattle.check_contexts.specs.declared.held.Lookup.{Lookup}
-use Rattle.check_contexts.specs.declared.held.Lookup.TheVariants as lookups
-use Rattle.calculus.specs.Verdict.{verdict_of}
-use Rattle.calculus.specs.declared.verdict.Verdict.{Verdict}
 use Rattle.check_terms.specs.Next.{context_in}
 
 -- the test of each process
@@ -64,21 +61,23 @@ pub record Left (s : List ℕ) (h r : Held) : Type 0 where
   pub few : r.count ≤ 16
   pub is : (w : List ℕ) → distinct (names (context_in s w h)) ≡ distinct (names (context_in s w r))
 
-pub left_all : (s : List ℕ) (h : Held) → h.count ≤ 16 → Left s h h
-left_all s h b = record { few = b; is = λ w. refl }
+module _ (s : List ℕ) (h r q : Held) (t : Left s h r) {raw : RawEnd} (g : get_elem? (held_in r) 0 ≡ some raw) (d : held_in q ≡ remove_at 0 (held_in r)) {f : CodeOption EndWords} (v : Sees s q raw.name f) where
+  some_found : (w : List ℕ) (x : CodeOption EndWords) → is_some (end_found s w x) ≡ found x
+  some_found w (Some x) = refl
+  some_found w None = refl
 
-module _ (s : List ℕ) (h r q : Held) (t : Left s h r) {raw : RawEnd} (g : get_elem? (held_in r) 0 ≡ some raw) (d : held_in q ≡ remove_at 0 (held_in r)) {f : Lookup} (v : Sees s q raw.name f) where
-  turn : (x : Lookup) → f ≡ x → (w : List ℕ) → distinct (names (context_in s w h)) ≡ cond (is_some (end_found s w x)) false (distinct (names (context_in s w q)))
+  turn : {b : Bool} → found f ≡ b → (w : List ℕ) → distinct (names (context_in s w h)) ≡ cond b false (distinct (names (context_in s w q)))
   unfolding channels_of
-  turn x p w =
+  turn p w =
       t.is w ∙ ap (λ l. distinct (names (context_of (ends_in s w l)))) (headed (held_in r) g ∙ ap (λ l. raw ∷ l) (sym d))
-      ∙ distinct_cons (end_is s w raw) (ends_in s w (held_in q)) (end_found s w x) (v.is w ∙ ap (end_found s w) p)
+      ∙ distinct_cons (end_is s w raw) (ends_in s w (held_in q)) (end_found s w f) (v.is w)
+      ∙ ap (λ b. cond b false (distinct (names (context_in s w q)))) (some_found w f ∙ p)
 
-  pub left_on : f ≡ lookups.Nothing → q.count ≤ 16 → Left s h q
-  left_on p b = record { few = b; is = turn lookups.Nothing p }
+  pub left_on : found f ≡ false → q.count ≤ 16 → Left s h q
+  left_on p b = record { few = b; is = turn p }
 
-  pub left_twice : (y : EndWords) → f ≡ lookups.Found y → Distinct s h false
-  left_twice y p = record { is = turn (lookups.Found y) p }
+  pub left_twice : found f ≡ true → Distinct s h false
+  left_twice p = record { is = turn p }
 
 none_held : (l : List RawEnd) → length l ≡ 0 → l ≡ []
 none_held [] e = refl
@@ -90,9 +89,6 @@ left_none s h r t z = record { is = λ w. t.is w ∙ ap (λ l. distinct (names (
 
 -- ── a process by its kind
 module _ (s w : List ℕ) (q : RawProcess) where
-  pub folding_typed : q.kind ≡ 1 → true ≡ typed_in s w q
-  folding_typed e = rw e refl
-
   pub doing_typed : (q.kind ≡ 1 → ⊥) → typed? (program_in s w) (context_of (ends_in s w q.held)) (process_in s w q.pointer) ≡ typed_in s w q
   doing_typed d = go q.kind d
     where
@@ -102,15 +98,3 @@ module _ (s w : List ℕ) (q : RawProcess) where
       go zero d = refl
       go (suc zero) d = absurd (d refl)
       go (suc (suc k)) d = refl
-
--- ── a term by its test
-module _ (s w : List ℕ) (h : Held) where
-  pub not_distinct : (P : Proc) {r : Bool} → Distinct s h r → r ≡ false → false ≡ typed? (program_in s w) (context_in s w h) P
-  not_distinct P d e = sym (ap (λ b. b && is_fine (check (program_in s w) (context_in s w h) P)) (d.is w ∙ e))
-
-  pub fine_typed : (pointer : ℕ) (v : Verdict) {r b : Bool} {p : ℕ} → Distinct s h r → r ≡ true → p ≡ pointer
-      → verdict_of v ≡ check (program_in s w) (context_in s w h) (process_in s w p) → b ≡ is_fine (verdict_of v)
-      → b ≡ typed? (program_in s w) (context_in s w h) (process_in s w pointer)
-  fine_typed pointer v d e q c f =
-      sym (ap (λ t. t && is_fine (check (program_in s w) (context_in s w h) (process_in s w pointer))) (d.is w ∙ e)
-      ∙ sym (f ∙ ap is_fine (c ∙ ap (λ p. check (program_in s w) (context_in s w h) (process_in s w p)) q)))

@@ -11,13 +11,7 @@ use run_words::records::{End, Held, Process};
 fn ends_match(e: End, f: End) -> bool
     ensures { result ≡ true → EndsMatch (end_in e) (end_in f) }
 {
-    if e.name != f.name {
-        return false;
-    }
-    if e.side != f.side {
-        return false;
-    }
-    e.node == f.node
+    e.name == f.name && e.side == f.side && e.node == f.node
 }
 
 // The same of as many ends each.
@@ -25,15 +19,12 @@ fn held_match(h: Held, g: Held) -> bool
     requires { (h.count ≤ held_limit) × (g.count ≡ h.count) }
     ensures { result ≡ true → HeldMatch (held_in h) (held_in g) }
 {
-    let n = h.count;
-    let mut k: usize = 0;
-    while k < n {
+    for k in 0..h.count {
         let e = end_at(h, k);
         let f = end_at(g, k);
         if !ends_match(e, f) {
             return false;
         }
-        k += 1;
     }
     true
 }
@@ -43,16 +34,8 @@ pub(crate) fn typed_alike(p: Process, q: Process) -> bool
     requires { (p.held.count ≤ held_limit) × (q.held.count ≤ held_limit) }
     ensures { result ≡ true → TypedAlike (process_in p) (process_in q) }
 {
-    if p.kind != q.kind {
-        return false;
-    }
-    if p.pointer != q.pointer {
-        return false;
-    }
-    let h = p.held;
-    let g = q.held;
-    if h.count != g.count {
-        return false;
-    }
-    held_match(h, g)
+    p.kind == q.kind
+        && p.pointer == q.pointer
+        && p.held.count == q.held.count
+        && held_match(p.held, q.held)
 }

@@ -39,10 +39,7 @@ fn far_same(text: &[u8], scratch: &[u32], node: u32, kept: u32) -> bool
     requires node { Node scratch.now node × (kept ≤ (tally_in scratch.now).nodes) }
     ensures { result ≡ far_same text.now scratch.now node kept }
 {
-    if kept == 0 {
-        return true;
-    }
-    same_type(text, scratch, wide(node), wide(kept) - 1)
+    kept == 0 || same_type(text, scratch, wide(node), wide(kept) - 1)
 }
 
 // Keeps an end, if it fits those kept before.
@@ -74,14 +71,10 @@ fn enter_held(text: &[u8], scratch: &[u32], seen: &mut [u32; KEYS], h: Held) -> 
     ensures entered { Entered text.now scratch.now seen.old seen.new (held_in h) result }
     ensures kept_2 { Kept scratch.now seen.new }
 {
-    let n = h.count;
-    let mut k: usize = 0;
-    while k < n {
-        let e = end_at(h, k);
-        if !enter(text, scratch, seen, e) {
+    for k in 0..h.count {
+        if !enter(text, scratch, seen, end_at(h, k)) {
             return false;
         }
-        k += 1;
     }
     true
 }
@@ -96,14 +89,11 @@ fn enter_processes(text: &[u8], scratch: &[u32], seen: &mut [u32; KEYS], run: &[
     ensures kept_2 { Kept scratch.now seen.new }
 {
     let n = count(run);
-    let mut i: usize = 0;
-    while i < n {
+    for i in 0..n {
         let p = load(run, i);
-        let h = p.held;
-        if !enter_held(text, scratch, seen, h) {
+        if !enter_held(text, scratch, seen, p.held) {
             return false;
         }
-        i += 1;
     }
     true
 }
@@ -117,8 +107,7 @@ fn enter_outside(text: &[u8], scratch: &[u32], seen: &mut [u32; KEYS], run: &[u3
     ensures { Entered text.now scratch.now seen.old seen.new (map outside_end (raw_in run.now).outside) result }
 {
     let n = outside_count(run);
-    let mut k: usize = 0;
-    while k < n {
+    for k in 0..n {
         let o = outside_at(run, k);
         let e = End {
             name: 0,
@@ -129,7 +118,6 @@ fn enter_outside(text: &[u8], scratch: &[u32], seen: &mut [u32; KEYS], run: &[u3
         if !enter(text, scratch, seen, e) {
             return false;
         }
-        k += 1;
     }
     true
 }
@@ -142,8 +130,5 @@ pub(crate) fn ends_fit(text: &[u8], scratch: &[u32], run: &[u32]) -> bool
     ensures { pairwise (beside_in text.now scratch.now) [] (raw_ends (raw_in run.now)) ≡ result }
 {
     let mut seen = [0u32; KEYS];
-    if !enter_processes(text, scratch, &mut seen, run) {
-        return false;
-    }
-    enter_outside(text, scratch, &mut seen, run)
+    enter_processes(text, scratch, &mut seen, run) && enter_outside(text, scratch, &mut seen, run)
 }

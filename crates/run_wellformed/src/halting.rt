@@ -7,22 +7,17 @@ ghost use Rattle.run_words.specs.Raw.{raw_in};
 ghost use Rattle.run_words.specs.Values.{process_in};
 ghost use Rattle.check_contexts.specs.Held.{channels_of, HeldIn};
 ghost use Rattle.run_alone.specs.Run.{config_in, RunOf, ProcessOf};
-ghost use Rattle.run_messages.specs.Receiving.{FarAt};
+ghost use Rattle.run_messages.specs.Parties.{FarAt};
 ghost use Rattle.run_wellformed.specs.Halting.{NobodyTakes, halts_in, halt_in};
 
-use check_contexts::held::{Lookup, find_end};
+use check_contexts::held::find_end;
 use check_types::branches::branch_of;
 use notation::kinds::{RAISE, RECV_LABEL, SEND_LABEL};
-use notation::reading::Found;
-use notation::script::Script;
-use notation::words::wide;
-use read_tables::access::term_node;
-use run_messages::messages::turn_on;
+use run_messages::messages::{party_at, running_term};
 use run_words::far::far_end;
 use run_words::halting::is_halted;
-use run_words::held::end_at;
 use run_words::processes::{count, load};
-use run_words::records::{Far, Held, Process, RUNNING, UNLINKED};
+use run_words::records::{Far, Held, Process, UNLINKED};
 
 // A label comes to the far end at position k of what the process at place j holds: whether that process leaves it out, and nobody catches that.
 fn leaves_out(text: &[u8], scratch: &[u32], run: &[u32], j: usize, k: usize, at: usize) -> bool
@@ -30,22 +25,13 @@ fn leaves_out(text: &[u8], scratch: &[u32], run: &[u32], j: usize, k: usize, at:
     requires far_at { FarAt text.now scratch.now run.now j k }
     ensures { NobodyTakes text.now scratch.now run.now j k at result }
 {
-    let r = load(run, j);
-    let h = r.held;
-    let y = end_at(h, k);
-    let x = y.name as usize;
-    let t = turn_on(text, scratch, r.kind, r.pointer, x);
-    if t.kind != RECV_LABEL {
+    let Some(to) = party_at(text, scratch, run, j, k) else {
         return false;
-    }
-    if r.link != UNLINKED {
-        return false;
-    }
-    let b = branch_of(text, scratch, at, t.second, t.third);
-    match b {
-        Found::At(p) => return false,
-        Found::Nothing => return true,
-    }
+    };
+    let t = to.term;
+    t.kind == RECV_LABEL
+        && to.process.link == UNLINKED
+        && branch_of(text, scratch, at, t.second, t.third).is_none()
 }
 
 // Whether the label at `at`, sent over the channel whose name is the one at `c`, is left out, and nobody catches that.
@@ -54,15 +40,13 @@ fn nobody_takes(text: &[u8], scratch: &[u32], run: &[u32], h: Held, c: usize, at
     requires held_in { HeldIn text.now scratch.now h }
     ensures { result ≡ nobody_takes_over (config_in text.now scratch.now run.now) (name_at text.now (at + 1)) (lookup (name_at text.now c) (channels_of text.now scratch.now h)) }
 {
-    let f = find_end(text, h, c);
-    let Lookup::Found(e) = f else {
+    let Some(e) = find_end(text, h, c) else {
         return false;
     };
-    let g = far_end(run, e.channel, e.side);
-    match g {
-        Far::Process(j, k) => return leaves_out(text, scratch, run, j, k, at),
-        Far::Outside(k) => return false,
-        Far::GivenUp => return false,
+    match far_end(run, e.channel, e.side) {
+        Far::Process(j, k) => leaves_out(text, scratch, run, j, k, at),
+        Far::Outside(_) => false,
+        Far::GivenUp => false,
     }
 }
 
@@ -72,22 +56,14 @@ fn halts(text: &[u8], scratch: &[u32], run: &[u32], p: Process) -> bool
     requires process_of { ProcessOf text.now scratch.now (length (raw_in run.now).processes) p }
     ensures { result ≡ halts_in text.now scratch.now (raw_in run.now) (process_in p) }
 {
-    if p.kind != RUNNING {
+    let Some(n) = running_term(scratch, p.kind, p.pointer) else {
         return false;
+    };
+    match n.kind {
+        RAISE => p.link == UNLINKED,
+        SEND_LABEL => nobody_takes(text, scratch, run, p.held, n.first, n.second),
+        _ => false,
     }
-    let i = wide(p.pointer);
-    if Script::PROCESS_TERMS <= i {
-        return false;
-    }
-    let n = term_node(scratch, i);
-    if n.kind == RAISE {
-        return p.link == UNLINKED;
-    }
-    if n.kind != SEND_LABEL {
-        return false;
-    }
-    let h = p.held;
-    nobody_takes(text, scratch, run, h, n.first, n.second)
 }
 
 // Whether the step of some process does.
@@ -96,13 +72,10 @@ fn some_halts(text: &[u8], scratch: &[u32], run: &[u32]) -> bool
     ensures { result ≡ any_of (halts_in text.now scratch.now (raw_in run.now)) (raw_in run.now).processes }
 {
     let n = count(run);
-    let mut i: usize = 0;
-    while i < n {
-        let p = load(run, i);
-        if halts(text, scratch, run, p) {
+    for i in 0..n {
+        if halts(text, scratch, run, load(run, i)) {
             return true;
         }
-        i += 1;
     }
     false
 }
@@ -112,8 +85,5 @@ pub(crate) fn halt_fits(text: &[u8], scratch: &[u32], run: &[u32]) -> bool
     requires { RunOf text.now scratch.now run.now }
     ensures { result ≡ halt_in text.now scratch.now (raw_in run.now) }
 {
-    if !is_halted(run) {
-        return true;
-    }
-    some_halts(text, scratch, run)
+    !is_halted(run) || some_halts(text, scratch, run)
 }

@@ -29,23 +29,11 @@ pub fn well_formed(text: &[u8], scratch: &[u32], run: &[u32]) -> bool
     requires run_words_in_bounds { run_words ≤ length run.now }
     ensures { Decided result (Formed text.now scratch.now (raw_in run.now)) }
 {
-    if !bounded(run) {
-        return false;
-    }
-    if !numbers_stand(scratch, run) {
-        return false;
-    }
-    if !processes_typed(text, scratch, run) {
-        return false;
-    }
-    if !ends_fit(text, scratch, run) {
-        return false;
-    }
-    if !outside_outward(text, scratch, run) {
-        return false;
-    }
-    if !halt_fits(text, scratch, run) {
-        return false;
-    }
-    well_joined(run)
+    bounded(run)
+        && numbers_stand(scratch, run)
+        && processes_typed(text, scratch, run)
+        && ends_fit(text, scratch, run)
+        && outside_outward(text, scratch, run)
+        && halt_fits(text, scratch, run)
+        && well_joined(run)
 }

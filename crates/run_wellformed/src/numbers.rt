@@ -20,14 +20,8 @@ fn pointer_stands(scratch: &[u32], p: usize) -> bool
     requires { Area scratch.now }
     ensures { Decided result (Pointer scratch.now p) }
 {
-    let n = term_count(scratch);
-    if p < n {
-        return true;
-    }
-    if p < Script::PROCESS_TERMS {
-        return false;
-    }
-    p <= Script::PROCESS_TERMS + Script::TEXT
+    p < term_count(scratch)
+        || (Script::PROCESS_TERMS <= p && p <= Script::PROCESS_TERMS + Script::TEXT)
 }
 
 // A process's pointer, which does not matter where it folds up.
@@ -35,10 +29,7 @@ fn term_stands(scratch: &[u32], kind: u32, pointer: u32) -> bool
     requires { Area scratch.now }
     ensures { Decided result (TermOf scratch.now kind pointer) }
 {
-    if kind == FOLDING {
-        return true;
-    }
-    pointer_stands(scratch, wide(pointer))
+    kind == FOLDING || pointer_stands(scratch, wide(pointer))
 }
 
 // What a process holds.
@@ -48,14 +39,11 @@ fn ends_stand(scratch: &[u32], h: Held) -> bool
     ensures { Decided result (All (EndOf scratch.now) (held_in h)) }
 {
     let nodes = node_count(scratch);
-    let n = h.count;
-    let mut k: usize = 0;
-    while k < n {
+    for k in 0..h.count {
         let e = end_at(h, k);
         if nodes <= wide(e.node) {
             return false;
         }
-        k += 1;
     }
     true
 }
@@ -65,11 +53,7 @@ fn process_stands(scratch: &[u32], p: Process) -> bool
     requires count_le_held_limit { p.held.count ≤ held_limit }
     ensures { Decided result (ProcessOf scratch.now (process_in p)) }
 {
-    if !term_stands(scratch, p.kind, p.pointer) {
-        return false;
-    }
-    let h = p.held;
-    ends_stand(scratch, h)
+    term_stands(scratch, p.kind, p.pointer) && ends_stand(scratch, p.held)
 }
 
 fn processes_stand(scratch: &[u32], run: &[u32]) -> bool
@@ -79,13 +63,10 @@ fn processes_stand(scratch: &[u32], run: &[u32]) -> bool
     ensures { Decided result (All (ProcessOf scratch.now) (raw_in run.now).processes) }
 {
     let n = count(run);
-    let mut i: usize = 0;
-    while i < n {
-        let p = load(run, i);
-        if !process_stands(scratch, p) {
+    for i in 0..n {
+        if !process_stands(scratch, load(run, i)) {
             return false;
         }
-        i += 1;
     }
     true
 }
@@ -98,13 +79,11 @@ fn outside_stands(scratch: &[u32], run: &[u32]) -> bool
 {
     let nodes = node_count(scratch);
     let n = outside_count(run);
-    let mut k: usize = 0;
-    while k < n {
+    for k in 0..n {
         let o = outside_at(run, k);
         if nodes <= wide(o.node) {
             return false;
         }
-        k += 1;
     }
     true
 }
@@ -116,8 +95,5 @@ pub(crate) fn numbers_stand(scratch: &[u32], run: &[u32]) -> bool
     requires bounded { Bounded (raw_in run.now) }
     ensures { Decided result (OfText scratch.now (raw_in run.now)) }
 {
-    if !processes_stand(scratch, run) {
-        return false;
-    }
-    outside_stands(scratch, run)
+    processes_stand(scratch, run) && outside_stands(scratch, run)
 }

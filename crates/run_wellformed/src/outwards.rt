@@ -21,13 +21,11 @@ pub(crate) fn outside_outward(text: &[u8], scratch: &[u32], run: &[u32]) -> bool
 {
     let marks = reach(text, scratch);
     let n = outside_count(run);
-    let mut k: usize = 0;
-    while k < n {
+    for k in 0..n {
         let o = outside_at(run, k);
         if has_other(text, scratch, marks, wide(o.node)) {
             return false;
         }
-        k += 1;
     }
     true
 }

@@ -1,8 +1,8 @@
 // Whether each process is typed: its names are distinct, and the check finds nothing at fault.
-ghost use Rattle.std.specs.Prelude.{◌≡◌, true, ℕ, ◌≤◌, ◌<◌, length};
+ghost use Rattle.std.specs.Prelude.{◌≡◌, true, ℕ, ◌≤◌, length};
 ghost use Rattle.notation.specs.Limits.{run_words, held_limit};
 ghost use Rattle.calculus.specs.Named.{every};
-ghost use Rattle.theory_decision.specs.Decide.{is_fine, typed?};
+ghost use Rattle.theory_decision.specs.Decide.{typed?};
 ghost use Rattle.read_tables.specs.Decode.{process_in};
 ghost use Rattle.read_tables.specs.Everywhere.{Everywhere};
 ghost use Rattle.read_tables.specs.Program.{program_in};
@@ -11,14 +11,12 @@ ghost use Rattle.read_tables.specs.Whole.{Tables};
 ghost use Rattle.run_words.specs.Raw.{raw_in, BoundedProcess, Bounded};
 ghost use Rattle.run_words.specs.Values as runs;
 ghost use Rattle.check_contexts.specs.Held.{HeldIn};
-ghost use Rattle.calculus.specs.Verdict.{verdict_of};
 ghost use Rattle.check_terms.specs.Next.{context_in};
 ghost use Rattle.run_wellformed.specs.OfText.{ProcessOf, OfText};
 ghost use Rattle.run_wellformed.specs.Typing.{Distinct, typed_in};
 
 use crate::alike::typed_alike;
-use calculus::verdict::Verdict;
-use check_contexts::held::{Lookup, find_end};
+use check_contexts::held::find_end;
 use check_processes::process::check_process;
 use notation::words::wide;
 use run_words::held::{end_at, without};
@@ -34,21 +32,11 @@ fn names_distinct(text: &[u8], h: Held) -> bool
     while 0 < rest.count {
         let e = end_at(rest, 0);
         rest = without(rest, 0);
-        let f = find_end(text, rest, wide(e.name));
-        let Lookup::Nothing = f else {
+        if find_end(text, rest, wide(e.name)).is_some() {
             return false;
-        };
+        }
     }
     true
-}
-
-fn is_fine(v: Verdict) -> bool
-    ensures { result ≡ is_fine (verdict_of v) }
-{
-    match v {
-        Verdict::Fine => true,
-        Verdict::Refused(_, _) => false,
-    }
 }
 
 // Whether a term is typed by what its process holds.
@@ -56,11 +44,7 @@ fn term_typed(text: &[u8], scratch: &[u32], h: Held, pointer: u32) -> bool
     requires { Tables text.now scratch.now × HeldIn text.now scratch.now h × ProcessIn text.now scratch.now pointer }
     ensures { result ≡ typed? (program_in text.now scratch.now) (context_in text.now scratch.now h) (process_in text.now scratch.now pointer) }
 {
-    if !names_distinct(text, h) {
-        return false;
-    }
-    let v = check_process(text, scratch, h, wide(pointer));
-    is_fine(v)
+    names_distinct(text, h) && check_process(text, scratch, h, wide(pointer)).is_ok()
 }
 
 // Whether a process is typed, as one that folds up always is.
@@ -69,11 +53,7 @@ fn process_typed(text: &[u8], scratch: &[u32], p: Process) -> bool
     requires process_of { ProcessOf scratch.now (runs.process_in p) × ((n : ℕ) × BoundedProcess n (runs.process_in p)) × (p.held.count ≤ held_limit) }
     ensures { result ≡ typed_in text.now scratch.now (runs.process_in p) }
 {
-    if p.kind == FOLDING {
-        return true;
-    }
-    let h = p.held;
-    term_typed(text, scratch, h, p.pointer)
+    p.kind == FOLDING || term_typed(text, scratch, p.held, p.pointer)
 }
 
 // Whether the process p is typed, where q before it is: the check is spared where both are typed alike.
@@ -83,10 +63,7 @@ fn typed_after(text: &[u8], scratch: &[u32], q: Process, p: Process) -> bool
     requires count_le_held_limit { (q.held.count ≤ held_limit) × (typed_in text.now scratch.now (runs.process_in q) ≡ true) }
     ensures { result ≡ typed_in text.now scratch.now (runs.process_in p) }
 {
-    if typed_alike(q, p) {
-        return true;
-    }
-    process_typed(text, scratch, p)
+    typed_alike(q, p) || process_typed(text, scratch, p)
 }
 
 // Whether all are.
@@ -99,16 +76,16 @@ pub(crate) fn processes_typed(text: &[u8], scratch: &[u32], run: &[u32]) -> bool
 {
     let n = count(run);
     // One that folds up is typed: nothing is before the first.
-    let mut last = NEW;
-    last.kind = FOLDING;
-    let mut i: usize = 0;
-    while i < n {
+    let mut last = Process {
+        kind: FOLDING,
+        ..NEW
+    };
+    for i in 0..n {
         let p = load(run, i);
         if !typed_after(text, scratch, last, p) {
             return false;
         }
         last = p;
-        i += 1;
     }
     true
 }

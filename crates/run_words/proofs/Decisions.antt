@@ -17,7 +17,6 @@ use Rattle.run_words.specs.Raw.{RawConfig, link_of, links_below, end_of, process
 use Rattle.run_words.specs.Values.{held_in, held_length, process_in, Decided}
 use Rattle.run_words.specs.Decode.{is_halted}
 use Rattle.run_words.specs.declared.records.Process.{Process}
-use Rattle.run_words.specs.Bounds.{link_word}
 use Rattle.run_words.specs.SliceLaws.{halted_word}
 
 pub accepted : {P : Type 0} → P → Decided true P
@@ -25,6 +24,9 @@ accepted p = record { yes = λ _. p; no = λ e _. let z : ◌≡◌ {A = ℕ} 0 
 
 pub refused : {P : Type 0} → (P → ⊥) → Decided false P
 refused n = record { yes = λ e. let z : ◌≡◌ {A = ℕ} 0 1 = cc in absurd (omega arith); no = λ _ p. n p }
+
+pub refused_as : {P : Type 0} {t : Bool} → t ≡ false → (P → ⊥) → Decided t P
+refused_as {P} e n = subst (λ t. Decided t P) (sym e) (refused n)
 
 pub decided_by : {P Q : Type 0} {t : Bool} → (P → Q) → (Q → P) → Decided t P → Decided t Q
 decided_by f g d = record { yes = λ e. f (d.yes e); no = λ e q. d.no e (g q) }
@@ -54,12 +56,6 @@ below_link n zero h = tt
 below_link n (suc l) h = h
 
 module _ (n : ℕ) (w : ℕ → ℕ) (p : Process) (e : process_of w ≡ process_in p) where
-  pub process_refused : (BoundedProcess n (process_in p) → ⊥) → Decided false (BoundedProcess n (process_of w))
-  process_refused r = refused (λ b. r (subst (BoundedProcess n) e b))
-
-  pub link_refused : n < p.link → Decided false (BoundedProcess n (process_of w))
-  link_refused h = process_refused (λ b. omega (arith, link_word n p.link b.link))
-
   pub process_decided : {t : Bool} → p.kind < 3 → p.pointer < pointer_limit → p.held.count ≤ held_limit → p.link ≤ n → Decided t (All BoundedEnd (held_in p.held)) → Decided t (BoundedProcess n (process_of w))
   process_decided a b c d =
       decided_by

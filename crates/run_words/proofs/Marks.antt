@@ -1,13 +1,16 @@
 -- Laws of marks for the channel places.
-use Prim.Native.Nat.{ℕ, suc, ◌+◌, ◌-◌, ◌≤◌, ◌<◌}
+use Prim.Native.Nat.{ℕ, zero, suc, ◌+◌, ◌≤◌, ◌<◌}
 use mathlib.Core.List.{List, [], ◌∷◌, map}
 use mathlib.Core.Path.{◌≡◌, refl, sym, ap, subst, ◌∙◌}
-use mathlib.Core.Bool.{Bool, true, false, cond}
+use mathlib.Core.Bool.{Bool, true, false, not, cond}
 use mathlib.Core.Option.{some}
 use native.Mathlib.Omega.{arith}
 use native.Mathlib.Numerals.{add-one}
 use native.Mathlib.Decide.{ℕ_discrete}
 use borrow.Author.Tests.{eq-eqb, ne_eqb}
+use Rattle.std.specs.Prelude.{Some, position}
+use Rattle.std.specs.List.{position_from}
+use Rattle.std.proofs.lemmas.Iterator.Adapters.{position_from-zero}
 use lib.ListN.{length, get_or, get_elem?, set, drop, length-set, replicate, length-replicate, get_or-replicate, drop_of_length-le}
 use lib.Seq.{get_or-set_same, get_or-set_other}
 use Rattle.notation.specs.Limits.{channel_places}
@@ -15,19 +18,19 @@ use Rattle.calculus.specs.Configuration.{among, free_from}
 use Rattle.run_words.specs.ListLaws.{drop_at}
 use Rattle.run_words.specs.Values.{Marked}
 use Rattle.run_words.specs.Raw.{RawEnd, RawProcess, RawOutside}
-use Rattle.run_words.specs.Operations.{held_channels, process_channels}
+use Rattle.run_words.specs.Operations.{held_channels, process_channels, found_in}
 
-pub unmarked : Marked (replicate channel_places 0) []
-unmarked = record { long = length-replicate {A = ℕ} channel_places 0; each = λ k h. get_or-replicate {A = ℕ} channel_places k 0 0 h }
+pub unmarked : Marked (replicate channel_places false) []
+unmarked = record { long = length-replicate channel_places false; each = λ k h. get_or-replicate channel_places k false false h }
 
-pub mark : (m l : List ℕ) (c : ℕ) → c < channel_places → Marked m l → Marked (set m c 1) (c ∷ l)
-mark m l c h a = record { long = length-set m c 1 ∙ a.long; each = λ k b. at k b (ℕ_discrete k c) }
+pub mark : (m : List Bool) (l : List ℕ) (c : ℕ) → c < channel_places → Marked m l → Marked (set m c true) (c ∷ l)
+mark m l c h a = record { long = length-set m c true ∙ a.long; each = λ k b. at k b (ℕ_discrete k c) }
   where
-    at : (k : ℕ) → k < channel_places → Dec (k ≡ c) → get_or (set m c 1) k 0 ≡ cond (among k (c ∷ l)) 1 0
-    at k b (yes p) = ap (λ j. get_or (set m c 1) j 0) p ∙ get_or-set_same m c 1 0 (omega (arith, a.long)) ∙ sym (ap (λ t. cond (cond t true (among k l)) 1 0) (eq-eqb k c p))
-    at k b (no p) = get_or-set_other m c k 1 0 p ∙ a.each k b ∙ sym (ap (λ t. cond (cond t true (among k l)) 1 0) (ne_eqb k c p))
+    at : (k : ℕ) → k < channel_places → Dec (k ≡ c) → get_or (set m c true) k false ≡ among k (c ∷ l)
+    at k b (yes p) = ap (λ j. get_or (set m c true) j false) p ∙ get_or-set_same m c true false (omega (arith, a.long)) ∙ sym (ap (λ t. cond t true (among k l)) (eq-eqb k c p))
+    at k b (no p) = get_or-set_other m c k true false p ∙ a.each k b ∙ sym (ap (λ t. cond t true (among k l)) (ne_eqb k c p))
 
-pub marked_as : (m : List ℕ) {l r : List ℕ} → l ≡ r → Marked m l → Marked m r
+pub marked_as : (m : List Bool) {l r : List ℕ} → l ≡ r → Marked m l → Marked m r
 marked_as m e a = subst (Marked m) e a
 
 -- lists from their end
@@ -52,30 +55,20 @@ pub process_turn : (l : List RawProcess) (j k : ℕ) (r : List ℕ) {p : RawProc
     (drop j l) r
 process_turn l j k r g q = ap (λ d. process_channels d r) (sym (drop_turn l j k g q))
 
--- ── what a mark says
-module _ (m l : List ℕ) (a : Marked m l) (k : ℕ) (h : k < channel_places) where
-  pub mark_free : get_or m k 0 ≡ 0 → among k l ≡ false
-  mark_free e = go (among k l) (sym (a.each k h) ∙ e)
-    where
-      go : (t : Bool) → ◌≡◌ {A = ℕ} (cond t 1 0) 0 → t ≡ false
-      go true q = absurd (omega arith)
-      go false q = refl
+-- ── the first place without a mark is the lowest that is free
+free_from_lem : (m : List Bool) (l : List ℕ) (k n : ℕ) → length m ≡ n → ((j : ℕ) → j < n → get_or m j false ≡ among (k + j) l) → position_from not k m ≡ found_in (free_from l k n)
+free_from_lem [] l k zero h a = refl
+free_from_lem [] l k (suc n) h a = absurd (omega arith)
+free_from_lem (x ∷ m) l k zero h a = absurd (omega arith)
+free_from_lem (x ∷ m) l k (suc n) h a =
+    let rest : position_from not (suc k) m ≡ found_in (free_from l (suc k) n) = free_from_lem m l (suc k) n (omega arith) (λ j b. a (suc j) (omega arith) ∙ ap (λ i. among i l) (omega arith)) in
+    let here : x ≡ among k l = a 0 (omega arith) ∙ ap (λ i. among i l) (omega arith) in
+    rw (here, add-one) (go (among k l) rest)
+  where
+    go : (t : Bool) → position_from not (suc k) m ≡ found_in (free_from l (suc k) n)
+        → cond (not t) (Some k) (position_from not (suc k) m) ≡ found_in (cond t (free_from l (suc k) n) (some k))
+    go true e = e
+    go false e = refl
 
-  pub mark_busy : (get_or m k 0 ≡ 0 → ⊥) → among k l ≡ true
-  mark_busy e = go (among k l) (a.each k h)
-    where
-      go : (t : Bool) → get_or m k 0 ≡ cond t 1 0 → t ≡ true
-      go true q = refl
-      go false q = absurd (e q)
-
-free_turn : (l : List ℕ) (k : ℕ) → k < channel_places → free_from l k (channel_places - k) ≡ cond (among k l) (free_from l (k + 1) (channel_places - (k + 1))) (some k)
-free_turn l k h =
-    let e : channel_places - k ≡ suc (channel_places - (k + 1)) = omega arith in
-    ap (free_from l k) e ∙ ap (λ n. cond (among k l) (free_from l n (channel_places - (k + 1))) (some k)) (sym (add-one k))
-
-module _ (m l : List ℕ) (a : Marked m l) (k : ℕ) (h : k < channel_places) where
-  pub free_here : get_or m k 0 ≡ 0 → free_from l k (channel_places - k) ≡ some k
-  free_here e = free_turn l k h ∙ ap (λ t. cond t (free_from l (k + 1) (channel_places - (k + 1))) (some k)) (mark_free m l a k h e)
-
-  pub free_on : (get_or m k 0 ≡ 0 → ⊥) → free_from l k (channel_places - k) ≡ free_from l (k + 1) (channel_places - (k + 1))
-  free_on e = free_turn l k h ∙ ap (λ t. cond t (free_from l (k + 1) (channel_places - (k + 1))) (some k)) (mark_busy m l a k h e)
+pub free_found : (m : List Bool) (l : List ℕ) → Marked m l → position not m ≡ found_in (free_from l 0 channel_places)
+free_found m l a = position_from-zero not m ∙ free_from_lem m l 0 channel_places a.long (λ j b. a.each j b ∙ ap (λ i. among i l) (omega arith))

@@ -1,5 +1,6 @@
 -- Laws of the outside's channels.
 use Prim.Native.Nat.{ℕ, zero, suc, ◌+◌, ◌*◌, ◌≤◌, ◌<◌}
+use Rattle.std.specs.Prelude.{Some, None}
 use mathlib.Core.List.{List, [], ◌∷◌, ◌++◌}
 use mathlib.Core.Path.{◌≡◌, refl, sym, ap, subst, ◌∙◌}
 use mathlib.Core.Bool.{Bool, true, false, cond}
@@ -15,7 +16,6 @@ use Rattle.run_words.specs.SearchLaws.{First, here, later, first_here, none_from
 use Rattle.run_words.specs.Raw.{RawOutside, RawConfig, rows, outside_of, raw_in, BoundedOutside, Bounded, outsides_at, outside_words, outside_row}
 use Rattle.run_words.specs.Values.{Changed, Written}
 use Rattle.run_words.specs.Operations.{with_outside, with_given, on_channel, outside_at, let_go, changed_outside}
-use Rattle.notation.specs.declared.reading.Found.TheVariants as found
 use Rattle.run_words.specs.Bounds.{changed_as}
 use Rattle.run_words.specs.RowLaws.{outside_local, rows_same, rows_set, rows_append}
 use Rattle.run_words.specs.SliceLaws.{word, counted_outside, numbered, outsides_same}
@@ -69,7 +69,7 @@ module _ (c : ℕ) (f : RawOutside → RawOutside) where
   changed_first (here {x} {l} r) = ap (λ t. cond t (f x ∷ l) (x ∷ changed_outside c f l)) r
   changed_first (later {x} {y} {l} r h) = ap (λ t. cond t (f y ∷ l) (y ∷ changed_outside c f l)) r ∙ ap (λ (m : List RawOutside). y ∷ m) (changed_first h)
 
-  pub changed_found : (l : List RawOutside) (k : ℕ) {o : RawOutside} → outside_at c l ≡ found.At k → get_elem? l k ≡ some o → changed_outside c f l ≡ set l k (f o)
+  pub changed_found : (l : List RawOutside) (k : ℕ) {o : RawOutside} → outside_at c l ≡ Some k → get_elem? l k ≡ some o → changed_outside c f l ≡ set l k (f o)
   unfolding outside_at
   changed_found l k e g = changed_first (first_here (on_channel c) l k e g)
 
@@ -78,7 +78,7 @@ module _ (c : ℕ) (f : RawOutside → RawOutside) where
   changed_none [] a = refl
   changed_none (x ∷ l) a = ap (λ t. cond t (f x ∷ l) (x ∷ changed_outside c f l)) a.0 ∙ ap (λ (m : List RawOutside). x ∷ m) (changed_none l a.1)
 
-  pub changed_nothing : (l : List RawOutside) → outside_at c l ≡ found.Nothing → changed_outside c f l ≡ l
+  pub changed_nothing : (l : List RawOutside) → outside_at c l ≡ None → changed_outside c f l ≡ l
   unfolding outside_at
   changed_nothing l e = changed_none l (none_from (on_channel c) l 0 e)
 
@@ -156,9 +156,9 @@ letting_at old new run c j i k p q h = subst (λ (r : List ℕ). Letting old r c
 pub unchanged : (ws : List ℕ) (C : RawConfig) → raw_in ws ≡ C → Bounded (raw_in ws) → Changed ws ws C × Bounded (raw_in ws)
 unchanged ws C e b = (record { is = e; past = refl; long = refl }, b)
 
-pub changed_changes : (ws new : List ℕ) (c k : ℕ) (f : RawOutside → RawOutside) {o p : RawOutside} → outside_at c (raw_in ws).outside ≡ found.At k → get_elem? (raw_in ws).outside k ≡ some o → p ≡ f o
+pub changed_changes : (ws new : List ℕ) (c k : ℕ) (f : RawOutside → RawOutside) {o p : RawOutside} → outside_at c (raw_in ws).outside ≡ Some k → get_elem? (raw_in ws).outside k ≡ some o → p ≡ f o
     → Changed ws new (with_outside (raw_in ws) (set (raw_in ws).outside k p)) → Changed ws new (with_outside (raw_in ws) (changed_outside c f (raw_in ws).outside))
 changed_changes ws new c k f e g q h = changed_as (ap (with_outside (raw_in ws)) (ap (set (raw_in ws).outside k) q ∙ sym (changed_found c f (raw_in ws).outside k e g))) h
 
-pub changed_same : (ws : List ℕ) (c : ℕ) (f : RawOutside → RawOutside) → outside_at c (raw_in ws).outside ≡ found.Nothing → raw_in ws ≡ with_outside (raw_in ws) (changed_outside c f (raw_in ws).outside)
+pub changed_same : (ws : List ℕ) (c : ℕ) (f : RawOutside → RawOutside) → outside_at c (raw_in ws).outside ≡ None → raw_in ws ≡ with_outside (raw_in ws) (changed_outside c f (raw_in ws).outside)
 changed_same ws c f e = ap (with_outside (raw_in ws)) (sym (changed_nothing c f (raw_in ws).outside e))

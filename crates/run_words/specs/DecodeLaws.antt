@@ -1,5 +1,6 @@
 -- The operations on a run's numbers are the calculus' own on the configuration that they stand for.
 use Rattle.std.specs.Prelude.{ℕ, suc, ◌+◌, ◌≡◌, Bool, eqb, set}
+use Rattle.std.specs.Prelude.{Option as CodeOption, Some, None}
 use mathlib.Core.List.{List, [], ◌∷◌, ◌++◌, map, map-map}
 use Rattle.std.proofs.Math.Path.{refl, ap, ap₂}
 use Rattle.std.proofs.Common.{sym, subst, ◌∙◌}
@@ -18,9 +19,6 @@ use Rattle.run_words.specs.SearchLaws.{First, here, later, first_here, none_from
 use Rattle.run_words.specs.Raw.{RawEnd, RawProcess, RawOutside, RawConfig}
 use Rattle.run_words.specs.Operations as raw
 use Rattle.run_words.specs.Decode as decode
-use Rattle.notation.specs.declared.reading.Found.{Found}
-use Rattle.notation.specs.declared.reading.Found.TheVariants as found
-use Rattle.run_words.specs.declared.records.Holder.TheVariants as holder
 use Rattle.run_words.specs.declared.records.Far.{Far}
 use Rattle.run_words.specs.declared.records.Far.TheVariants as far
 
@@ -124,7 +122,7 @@ module _ (name_of : ℕ → Name) (type_of : ℕ → Ty Name) (term_of : ℕ →
   named_first k s (here {x} {l} r) = ap (λ t. cond t (some (name_of x.name)) (calculus.held_as k s (map end_of l))) r
   named_first k s (later {x} {y} {l} r h) = ap (λ t. cond t (some (name_of y.name)) (calculus.held_as k s (map end_of l))) r ∙ named_first k s h
 
-  pub decoded_named : (k : ℕ) (s : Side) (l : List RawEnd) (j : ℕ) {e : RawEnd} → raw.held_at k s l ≡ found.At j → get_elem? l j ≡ some e → calculus.held_as k s (map end_of l) ≡ some (name_of e.name)
+  pub decoded_named : (k : ℕ) (s : Side) (l : List RawEnd) (j : ℕ) {e : RawEnd} → raw.held_at k s l ≡ Some j → get_elem? l j ≡ some e → calculus.held_as k s (map end_of l) ≡ some (name_of e.name)
   unfolding raw.held_at
   decoded_named k s l j e g = named_first k s (first_here (raw.is_end k s) l j e g)
 
@@ -133,7 +131,7 @@ module _ (name_of : ℕ → Name) (type_of : ℕ → Ty Name) (term_of : ℕ →
   unnamed k s [] a = refl
   unnamed k s (e ∷ l) a = ap (λ t. cond t (some (name_of e.name)) (calculus.held_as k s (map end_of l))) a.0 ∙ unnamed k s l a.1
 
-  pub decoded_unnamed : (k : ℕ) (s : Side) (l : List RawEnd) → raw.held_at k s l ≡ found.Nothing → calculus.held_as k s (map end_of l) ≡ none
+  pub decoded_unnamed : (k : ℕ) (s : Side) (l : List RawEnd) → raw.held_at k s l ≡ None → calculus.held_as k s (map end_of l) ≡ none
   unfolding raw.held_at
   decoded_unnamed k s l e = unnamed k s l (none_from (raw.is_end k s) l 0 e)
 
@@ -150,17 +148,17 @@ module _ (name_of : ℕ → Name) (type_of : ℕ → Ty Name) (term_of : ℕ →
     holder_held n m (Holds.later {p} {q} {l} r h) g z =
         ap (λ o. calculus.holder_here n (process_of q) o (calculus.holder_from (suc n) k s (map process_of l))) (decoded_unnamed k s q.held r) ∙ holder_held (suc n) m h g (omega arith)
 
-    pub decoded_holder : (l : List RawProcess) (i j : ℕ) {p : RawProcess} {e : RawEnd} → raw.holder_of k s l ≡ holder.At i j → get_elem? l i ≡ some p → get_elem? p.held j ≡ some e
+    pub decoded_holder : (l : List RawProcess) (i j : ℕ) {p : RawProcess} {e : RawEnd} → raw.holder_of k s l ≡ Some (i, j) → get_elem? l i ≡ some p → get_elem? p.held j ≡ some e
         → calculus.holder_from 0 k s (map process_of l) ≡ some (holder_as i p e)
     decoded_holder l i j h g e = holder_held 0 i (holds_here k s l i j h g) e (omega arith)
 
-    unheld : (l : List RawProcess) (n : ℕ) → All (λ p. raw.held_at k s p.held ≡ found.Nothing) l → calculus.holder_from n k s (map process_of l) ≡ none
+    unheld : (l : List RawProcess) (n : ℕ) → All (λ p. raw.held_at k s p.held ≡ None) l → calculus.holder_from n k s (map process_of l) ≡ none
     unfolding calculus.holder_from
     unheld [] n a = refl
     unheld (p ∷ l) n a =
         ap (λ o. calculus.holder_here n (process_of p) o (calculus.holder_from (suc n) k s (map process_of l))) (decoded_unnamed k s p.held a.0) ∙ unheld l (suc n) a.1
 
-    pub decoded_nobody : (l : List RawProcess) → raw.holder_of k s l ≡ holder.Nobody → calculus.holder_from 0 k s (map process_of l) ≡ none
+    pub decoded_nobody : (l : List RawProcess) → raw.holder_of k s l ≡ None → calculus.holder_from 0 k s (map process_of l) ≡ none
     unfolding raw.holder_of
     decoded_nobody l e = unheld l 0 (nobody_from k s l 0 e)
 
@@ -170,7 +168,7 @@ module _ (name_of : ℕ → Name) (type_of : ℕ → Ty Name) (term_of : ℕ →
   outside_first k (here {x} {l} r) = ap (λ t. cond t (some (outside_of x)) (calculus.outside_of k (map outside_of l))) r
   outside_first k (later {x} {y} {l} r h) = ap (λ t. cond t (some (outside_of y)) (calculus.outside_of k (map outside_of l))) r ∙ outside_first k h
 
-  pub decoded_outside_lem : (k : ℕ) (l : List RawOutside) (j : ℕ) {o : RawOutside} → raw.outside_at k l ≡ found.At j → get_elem? l j ≡ some o → calculus.outside_of k (map outside_of l) ≡ some (outside_of o)
+  pub decoded_outside_lem : (k : ℕ) (l : List RawOutside) (j : ℕ) {o : RawOutside} → raw.outside_at k l ≡ Some j → get_elem? l j ≡ some o → calculus.outside_of k (map outside_of l) ≡ some (outside_of o)
   unfolding raw.outside_at
   decoded_outside_lem k l j e g = outside_first k (first_here (raw.on_channel k) l j e g)
 
@@ -179,7 +177,7 @@ module _ (name_of : ℕ → Name) (type_of : ℕ → Ty Name) (term_of : ℕ →
   no_outside k [] a = refl
   no_outside k (o ∷ l) a = ap (λ t. cond t (some (outside_of o)) (calculus.outside_of k (map outside_of l))) a.0 ∙ no_outside k l a.1
 
-  pub decoded_not_outside : (k : ℕ) (l : List RawOutside) → raw.outside_at k l ≡ found.Nothing → calculus.outside_of k (map outside_of l) ≡ none
+  pub decoded_not_outside : (k : ℕ) (l : List RawOutside) → raw.outside_at k l ≡ None → calculus.outside_of k (map outside_of l) ≡ none
   unfolding raw.outside_at
   decoded_not_outside k l e = no_outside k l (none_from (raw.on_channel k) l 0 e)
 
@@ -209,10 +207,10 @@ module _ (name_of : ℕ → Name) (type_of : ℕ → Ty Name) (term_of : ℕ →
         unused none = refl
         unused (some o) = refl
 
-        go : (s : Side) (f : Found) → raw.outside_at k C.outside ≡ f → raw.or_outside s f ≡ far.GivenUp → calculus.or_outside s (calculus.outside_of k (map outside_of C.outside)) ≡ calculus.given_up
+        go : (s : Side) (f : CodeOption ℕ) → raw.outside_at k C.outside ≡ f → raw.or_outside s f ≡ far.GivenUp → calculus.or_outside s (calculus.outside_of k (map outside_of C.outside)) ≡ calculus.given_up
         go used f r e = unused (calculus.outside_of k (map outside_of C.outside))
-        go provided found.Nothing r e = ap (calculus.or_outside provided) (decoded_not_outside k C.outside r)
-        go provided (found.At j) r e = let z : ◌≡◌ {A = ℕ} 0 1 = cc in absurd (omega arith)
+        go provided None r e = ap (calculus.or_outside provided) (decoded_not_outside k C.outside r)
+        go provided (Some j) r e = let z : ◌≡◌ {A = ℕ} 0 1 = cc in absurd (omega arith)
 
   -- what a far end in numbers stands for
   pub data FarAs (C : RawConfig) : Far → calculus.Far → Type 0 where

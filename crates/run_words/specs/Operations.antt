@@ -1,5 +1,6 @@
 -- The calculus' operations, on numbers: each is what the calculus' own is once the numbers are decoded.
 use Rattle.std.specs.Prelude.{ℕ, suc, ◌+◌, ◌-◌, List, [], ◌∷◌, map, Bool, true, false, cond, ◌&&◌, eqb, ltb}
+use Rattle.std.specs.Prelude.{Option as CodeOption, Some, None}
 use Rattle.std.proofs.Math.Option
 use Rattle.std.proofs.Math.Option.{Option, some, none}
 use Rattle.notation.specs.Limits.{channel_places}
@@ -7,12 +8,8 @@ use Rattle.calculus.specs.Types.{Side, provided, used, other, same_side}
 use Rattle.calculus.specs.Configuration.{moved_up, moved_down, free_from}
 use Rattle.run_words.specs.Lists.{insert_at, remove_at, scan}
 use Rattle.run_words.specs.Raw.{RawEnd, RawProcess, RawOutside, RawConfig, linked_to}
-use Rattle.notation.specs.declared.reading.Found.{Found}
-use Rattle.notation.specs.declared.reading.Found.TheVariants as found
 use Rattle.run_words.specs.declared.records.Change.{Change}
 use Rattle.run_words.specs.declared.records.Change.TheVariants as change
-use Rattle.run_words.specs.declared.records.Holder.{Holder}
-use Rattle.run_words.specs.declared.records.Holder.TheVariants as holder
 use Rattle.run_words.specs.declared.records.Far.{Far}
 use Rattle.run_words.specs.declared.records.Far.TheVariants as far
 
@@ -60,44 +57,48 @@ removed i l = remove_at i (map (relinked (moved_down i)) l)
 
 -- ── who holds an end
 -- the first position whose element passes the test
-abbrev pub first_step : {A : Type 0} → (A → Bool) → ℕ → A → Found → Found
-first_step p i x r = cond (p x) (found.At i) r
+abbrev pub first_step : {A : Type 0} → (A → Bool) → ℕ → A → CodeOption ℕ → CodeOption ℕ
+first_step p i x r = cond (p x) (Some i) r
 
-abbrev pub first : {A : Type 0} → (A → Bool) → List A → Found
-first p l = scan (first_step p) found.Nothing 0 l
+abbrev pub first : {A : Type 0} → (A → Bool) → List A → CodeOption ℕ
+first p l = scan (first_step p) None 0 l
 
 abbrev pub is_end : ℕ → Side → RawEnd → Bool
 is_end k s e = eqb k e.channel && same_side s e.side
 
-unfoldable pub held_at : ℕ → Side → List RawEnd → Found
+unfoldable pub held_at : ℕ → Side → List RawEnd → CodeOption ℕ
 held_at k s l = first (is_end k s) l
 
-abbrev pub holder_here : ℕ → Found → Holder → Holder
-holder_here i (found.At j) r = holder.At i j
-holder_here i found.Nothing r = r
+-- who holds an end: the place of a process, and the end's position in what it holds
+abbrev pub Holder : Type 0
+Holder = CodeOption (ℕ × ℕ)
+
+abbrev pub holder_here : ℕ → CodeOption ℕ → Holder → Holder
+holder_here i (Some j) r = Some (i, j)
+holder_here i None r = r
 
 abbrev pub holder_step : ℕ → Side → ℕ → RawProcess → Holder → Holder
 holder_step k s i p r = holder_here i (held_at k s p.held) r
 
--- the first process that holds an end: its place, and the end's position
+-- the first process that holds an end
 unfoldable pub holder_of : ℕ → Side → List RawProcess → Holder
-holder_of k s l = scan (holder_step k s) holder.Nobody 0 l
+holder_of k s l = scan (holder_step k s) None 0 l
 
 abbrev pub on_channel : ℕ → RawOutside → Bool
 on_channel k o = eqb k o.channel
 
-unfoldable pub outside_at : ℕ → List RawOutside → Found
+unfoldable pub outside_at : ℕ → List RawOutside → CodeOption ℕ
 outside_at k l = first (on_channel k) l
 
 -- ── the far end
-abbrev pub or_outside : Side → Found → Far
-or_outside s found.Nothing = far.GivenUp
-or_outside provided (found.At j) = far.Outside j
-or_outside used (found.At j) = far.GivenUp
+abbrev pub or_outside : Side → CodeOption ℕ → Far
+or_outside s None = far.GivenUp
+or_outside provided (Some j) = far.Outside j
+or_outside used (Some j) = far.GivenUp
 
 abbrev pub far_from : Holder → Far → Far
-far_from (holder.At i j) f = far.Process i j
-far_from holder.Nobody f = f
+far_from (Some (i, j)) f = far.Process i j
+far_from None f = f
 
 -- the far end of an end, by its channel and side: held by a process, at that place and position; the outside's, at that position; or given up
 unfoldable pub far_end : RawConfig → ℕ → Side → Far
@@ -124,9 +125,9 @@ unfoldable pub fresh_channel : RawConfig → Option ℕ
 fresh_channel C = free_from (channels_held C) 0 channel_places
 
 -- the same, as the code answers
-abbrev pub found_in : Option ℕ → Found
-found_in none = found.Nothing
-found_in (some k) = found.At k
+abbrev pub found_in : Option ℕ → CodeOption ℕ
+found_in none = None
+found_in (some k) = Some k
 
 -- ── the outside
 -- without a channel; with the first of a channel changed

@@ -1,5 +1,5 @@
 -- What the code's values mean, and what becomes of the words that it writes.
-use Rattle.std.specs.Prelude.{ℕ, ◌+◌, ◌*◌, ◌/◌, ◌%◌, ◌≤◌, ◌<◌, List, ◌≡◌, Bool, true, false, cond, length, get_or, drop}
+use Rattle.std.specs.Prelude.{ℕ, ◌+◌, ◌*◌, ◌/◌, ◌%◌, ◌≤◌, ◌<◌, List, ◌≡◌, Bool, true, false, length, get_or, drop}
 use Rattle.notation.specs.Limits.{channel_places, run_words}
 use Rattle.calculus.specs.Configuration.{among}
 use Rattle.run_words.specs.ListLaws.{length_tab}
@@ -81,10 +81,10 @@ pub record Written {A : Type 0} (read : (ℕ → ℕ) → A) (width : ℕ) (old 
   pub below : (k : ℕ) → k < first → get_or new k 0 ≡ get_or old k 0
   pub above : (k : ℕ) → first + width ≤ k → get_or new k 0 ≡ get_or old k 0
 
--- a word for each channel place: 1 where the channel is in the list, else 0
-pub record Marked (marks : List ℕ) (l : List ℕ) : Type 0 where
+-- a mark for each channel place: whether the channel is in the list
+pub record Marked (marks : List Bool) (l : List ℕ) : Type 0 where
   pub long : length marks ≡ channel_places
-  pub each : (k : ℕ) → k < channel_places → get_or marks k 0 ≡ cond (among k l) 1 0
+  pub each : (k : ℕ) → k < channel_places → get_or marks k false ≡ among k l
 
 -- the answer says whether it holds
 pub record Decided (answer : Bool) (P : Type 0) : Type 0 where

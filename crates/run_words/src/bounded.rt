@@ -7,19 +7,14 @@ ghost use Rattle.run_words.specs.Values.{held_in, Decided};
 
 use crate::held::end_at;
 use crate::outside::{get_outside, outside_count};
-use crate::processes::{count, get};
-use crate::records::{
-    COUNT, GIVEN, HALTED, HELD_COUNT, Held, OUTSIDE_COUNT, PLACE_WORDS, PLACES_AT, POINTER_LIMIT,
-    WAITING,
-};
+use crate::processes::{count, get, held_count};
+use crate::records::{COUNT, GIVEN, HALTED, Held, OUTSIDE_COUNT, POINTER_LIMIT, WAITING};
 use notation::script::Script;
 
 // The notation's limits, as words.
 const TEXT: u32 = Script::TEXT as u32;
 
 const TYPE_TERMS: u32 = Script::TYPE_TERMS as u32;
-
-const HELD: u32 = Script::HELD as u32;
 
 const PROCESS_PLACES: u32 = Script::PROCESS_PLACES as u32;
 
@@ -30,17 +25,11 @@ fn ends_bounded(h: Held) -> bool
     requires { h.count ≤ held_limit }
     ensures { Decided result (All BoundedEnd (held_in h)) }
 {
-    let n = h.count;
-    let mut k: usize = 0;
-    while k < n {
+    for k in 0..h.count {
         let e = end_at(h, k);
-        if TEXT <= e.name {
+        if TEXT <= e.name || TYPE_TERMS <= e.node {
             return false;
         }
-        if TYPE_TERMS <= e.node {
-            return false;
-        }
-        k += 1;
     }
     true
 }
@@ -50,21 +39,11 @@ fn process_bounded(run: &[u32], i: usize, n: u32) -> bool
     requires { (run_words ≤ length run.now) × (i < process_places) }
     ensures { Decided result (BoundedProcess n (process_of (process_row run.now i))) }
 {
-    if HELD < run[PLACES_AT + PLACE_WORDS * i + HELD_COUNT] {
+    if Script::HELD < held_count(run, i) {
         return false;
     }
     let p = get(run, i);
-    if WAITING < p.kind {
-        return false;
-    }
-    if POINTER_LIMIT <= p.pointer {
-        return false;
-    }
-    if n < p.link {
-        return false;
-    }
-    let h = p.held;
-    ends_bounded(h)
+    p.kind <= WAITING && p.pointer < POINTER_LIMIT && p.link <= n && ends_bounded(p.held)
 }
 
 // The processes.
@@ -74,13 +53,10 @@ fn processes_bounded(run: &[u32]) -> bool
     ensures { Decided result (All (BoundedProcess (length (raw_in run.now).processes)) (raw_in run.now).processes) }
 {
     let n = count(run);
-    let m = n as u32;
-    let mut i: usize = 0;
-    while i < n {
-        if !process_bounded(run, i, m) {
+    for i in 0..n {
+        if !process_bounded(run, i, n as u32) {
             return false;
         }
-        i += 1;
     }
     true
 }
@@ -91,17 +67,11 @@ fn outside_bounded(run: &[u32]) -> bool
     requires run_len_bound { length (raw_in run.now).outside ≤ outside_numbers }
     ensures { Decided result (All BoundedOutside (raw_in run.now).outside) }
 {
-    let n = outside_count(run);
-    let mut k: usize = 0;
-    while k < n {
+    for k in 0..outside_count(run) {
         let o = get_outside(run, k);
-        if OUTSIDE_NUMBERS <= o.number {
+        if OUTSIDE_NUMBERS <= o.number || TYPE_TERMS <= o.node {
             return false;
         }
-        if TYPE_TERMS <= o.node {
-            return false;
-        }
-        k += 1;
     }
     true
 }
@@ -111,20 +81,12 @@ pub fn bounded(run: &[u32]) -> bool
     requires { run_words ≤ length run.now }
     ensures { Decided result (Bounded (raw_in run.now)) }
 {
-    if PROCESS_PLACES < run[COUNT] {
+    if PROCESS_PLACES < run[COUNT]
+        || OUTSIDE_NUMBERS < run[GIVEN]
+        || OUTSIDE_NUMBERS < run[OUTSIDE_COUNT]
+        || 1 < run[HALTED]
+    {
         return false;
     }
-    if OUTSIDE_NUMBERS < run[GIVEN] {
-        return false;
-    }
-    if OUTSIDE_NUMBERS < run[OUTSIDE_COUNT] {
-        return false;
-    }
-    if 1 < run[HALTED] {
-        return false;
-    }
-    if !processes_bounded(run) {
-        return false;
-    }
-    outside_bounded(run)
+    processes_bounded(run) && outside_bounded(run)
 }

@@ -7,76 +7,61 @@ ghost use Rattle.run_words.specs.Operations.{held_channels, process_channels, ch
 
 use crate::outside::{outside_at, outside_count};
 use crate::processes::{count, held_count, held_end};
-use notation::reading::Found;
 use notation::script::Script;
 use notation::words::wide;
 
 // Marks the channels of the outside.
-fn mark_outside(marks: &mut [u32; Script::CHANNEL_PLACES], run: &[u32])
+fn mark_outside(marks: &mut [bool; Script::CHANNEL_PLACES], run: &[u32])
     requires run_words_in_bounds { run_words ≤ length run.now }
     requires bounded { Bounded (raw_in run.now) }
     ensures { Marked marks.old [] → Marked marks.new (map (λ (o : RawOutside). o.channel) (raw_in run.now).outside) }
 {
-    let mut k = outside_count(run);
-    while 0 < k {
-        k -= 1;
+    for k in (0..outside_count(run)).rev() {
         let o = outside_at(run, k);
-        marks[wide(o.channel)] = 1;
+        marks[wide(o.channel)] = true;
     }
 }
 
 // Marks the channels that the process at a place holds, read off its words.
-fn mark_held(marks: &mut [u32; Script::CHANNEL_PLACES], run: &[u32], i: usize)
+fn mark_held(marks: &mut [bool; Script::CHANNEL_PLACES], run: &[u32], i: usize)
     requires run_words_in_bounds { (run_words ≤ length run.now) × (i < process_places) }
     requires i_bound { held_count run.now i ≤ held_limit }
     ensures { (l : List ℕ) → Marked marks.old l → Marked marks.new (held_channels (process_of (process_row run.now i)).held l) }
 {
-    let mut k = held_count(run, i);
-    while 0 < k {
-        k -= 1;
+    for k in (0..held_count(run, i)).rev() {
         let e = held_end(run, i, k);
-        marks[wide(e.channel)] = 1;
+        marks[wide(e.channel)] = true;
     }
 }
 
 // Marks the channels that the processes hold.
-fn mark_processes(marks: &mut [u32; Script::CHANNEL_PLACES], run: &[u32])
+fn mark_processes(marks: &mut [bool; Script::CHANNEL_PLACES], run: &[u32])
     requires run_words_in_bounds { run_words ≤ length run.now }
     requires bounded { Bounded (raw_in run.now) }
     ensures { (l : List ℕ) → Marked marks.old l → Marked marks.new (process_channels (raw_in run.now).processes l) }
 {
-    let mut i = count(run);
-    while 0 < i {
-        i -= 1;
+    for i in (0..count(run)).rev() {
         mark_held(marks, run, i);
     }
 }
 
 // A mark for each channel of which an end is held.
-fn marked(run: &[u32]) -> [u32; Script::CHANNEL_PLACES]
+fn marked(run: &[u32]) -> [bool; Script::CHANNEL_PLACES]
     requires run_words_in_bounds { run_words ≤ length run.now }
     requires bounded { Bounded (raw_in run.now) }
     ensures { Marked result (channels_held (raw_in run.now)) }
 {
-    let mut marks = [0u32; Script::CHANNEL_PLACES];
+    let mut marks = [false; Script::CHANNEL_PLACES];
     mark_outside(&mut marks, run);
     mark_processes(&mut marks, run);
     marks
 }
 
 // The lowest channel of which no end is held.
-pub fn fresh_channel(run: &[u32]) -> Found
+pub fn fresh_channel(run: &[u32]) -> Option<usize>
     requires run_words_in_bounds { run_words ≤ length run.now }
     requires bounded { Bounded (raw_in run.now) }
     ensures { result ≡ found_in (fresh_channel (raw_in run.now)) }
 {
-    let marks = marked(run);
-    let mut k: usize = 0;
-    while k < Script::CHANNEL_PLACES {
-        if marks[k] == 0 {
-            return Found::At(k);
-        }
-        k += 1;
-    }
-    Found::Nothing
+    marked(run).iter().position(|taken| !*taken)
 }

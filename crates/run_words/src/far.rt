@@ -7,119 +7,90 @@ ghost use Rattle.run_words.specs.Operations.{held_at, holder_of, far_end, was_gi
 
 use crate::outside::find_outside;
 use crate::processes::{count, held_count, held_end};
-use crate::records::{Far, Holder, USED};
-use notation::reading::Found;
+use crate::records::{Far, USED};
 
 // The first position at which the process at a place holds an end.
-fn place_holds(run: &[u32], i: usize, channel: u32, side: u32) -> Found
+fn place_holds(run: &[u32], i: usize, channel: u32, side: u32) -> Option<usize>
     requires run_words_in_bounds { (run_words ≤ length run.now) × (i < process_places) × (side < side_radix) }
     requires i_bound { held_count run.now i ≤ held_limit }
     ensures { result ≡ held_at channel (side_of side) (process_of (process_row run.now i)).held }
 {
-    let n = held_count(run, i);
-    let mut k: usize = 0;
-    while k < n {
+    for k in 0..held_count(run, i) {
         let e = held_end(run, i, k);
-        if channel == e.channel {
-            if side == e.side {
-                return Found::At(k);
-            }
+        if channel == e.channel && side == e.side {
+            return Some(k);
         }
-        k += 1;
     }
-    Found::Nothing
+    None
 }
 
-// The first process that holds an end.
-fn holder(run: &[u32], channel: u32, side: u32) -> Holder
+// The first process that holds an end: its place, and the end's position in what it holds.
+fn holder(run: &[u32], channel: u32, side: u32) -> Option<(usize, usize)>
     requires run_words_in_bounds { run_words ≤ length run.now }
     requires bounded { Bounded (raw_in run.now) }
     requires side_lt_side_radix { side < side_radix }
     ensures { result ≡ holder_of channel (side_of side) (raw_in run.now).processes }
 {
-    let n = count(run);
-    let mut i: usize = 0;
-    while i < n {
-        let f = place_holds(run, i, channel, side);
-        match f {
-            Found::At(k) => return Holder::At(i, k),
-            Found::Nothing => {}
+    for i in 0..count(run) {
+        if let Some(k) = place_holds(run, i, channel, side) {
+            return Some((i, k));
         }
-        i += 1;
     }
-    Holder::Nobody
+    None
 }
 
 // The process at a place, if there is one, as the holder of an end.
-fn holder_at(run: &[u32], i: usize, channel: u32, side: u32) -> Holder
+fn holder_at(run: &[u32], i: usize, channel: u32, side: u32) -> Option<(usize, usize)>
     requires run_words_in_bounds { run_words ≤ length run.now }
     requires bounded { Bounded (raw_in run.now) }
     requires side_lt_side_radix { side < side_radix }
     ensures { result ≡ held_around channel (side_of side) (raw_in run.now).processes i }
 {
     if count(run) <= i {
-        return Holder::Nobody;
+        return None;
     }
-    let f = place_holds(run, i, channel, side);
-    match f {
-        Found::At(k) => return Holder::At(i, k),
-        Found::Nothing => return Holder::Nobody,
-    }
-}
-
-// The place that is d down, or the first.
-fn place_below(place: usize, d: usize) -> usize
-    ensures { result ≡ place - d }
-{
-    if place < d {
-        return 0;
-    }
-    place - d
+    let k = place_holds(run, i, channel, side)?;
+    Some((i, k))
 }
 
 // The process that holds an end that no two hold, sought outwards from a place: the ends of a channel are mostly close.
-fn holder_near(run: &[u32], place: usize, channel: u32, side: u32) -> Holder
+fn holder_near(run: &[u32], place: usize, channel: u32, side: u32) -> Option<(usize, usize)>
     requires run_words_in_bounds { run_words ≤ length run.now }
     requires bounded { Bounded (raw_in run.now) }
     requires side_lt_side_radix { side < side_radix }
     requires place_in_bounds { (place < length (raw_in run.now).processes) × HeldOnce (raw_in run.now).processes }
     ensures { result ≡ holder_of channel (side_of side) (raw_in run.now).processes }
 {
-    let n = count(run);
-    let mut d: usize = 0;
-    while d < n {
+    for d in 0..count(run) {
         let up = holder_at(run, place + 1 + d, channel, side);
-        let Holder::Nobody = up else {
+        if up.is_some() {
             return up;
-        };
-        let down = holder_at(run, place_below(place, d), channel, side);
-        let Holder::Nobody = down else {
+        }
+        let down = holder_at(run, place.saturating_sub(d), channel, side);
+        if down.is_some() {
             return down;
-        };
-        d += 1;
+        }
     }
-    Holder::Nobody
+    None
 }
 
 // The far end of an end, by who holds the other end of the channel.
-fn far_by(run: &[u32], h: Holder, channel: u32, side: u32) -> Far
+fn far_by(run: &[u32], h: Option<(usize, usize)>, channel: u32, side: u32) -> Far
     requires run_words_in_bounds { run_words ≤ length run.now }
     requires bounded { Bounded (raw_in run.now) }
     requires side_lt_side_radix { side < side_radix }
     requires h_value { h ≡ holder_of channel (side_of (1 - side)) (raw_in run.now).processes }
     ensures { result ≡ far_end (raw_in run.now) channel (side_of side) }
 {
-    match h {
-        Holder::At(i, k) => return Far::Process(i, k),
-        Holder::Nobody => {}
+    if let Some((i, k)) = h {
+        return Far::Process(i, k);
     }
     if side == USED {
         return Far::GivenUp;
     }
-    let f = find_outside(run, channel);
-    match f {
-        Found::At(k) => Far::Outside(k),
-        Found::Nothing => Far::GivenUp,
+    match find_outside(run, channel) {
+        Some(k) => Far::Outside(k),
+        None => Far::GivenUp,
     }
 }
 
@@ -150,9 +121,5 @@ pub fn far_end_near(run: &[u32], place: usize, channel: u32, side: u32) -> Far
 pub fn is_given_up(f: Far) -> bool
     ensures { result ≡ was_given_up f }
 {
-    match f {
-        Far::Process(j, k) => return false,
-        Far::Outside(k) => return false,
-        Far::GivenUp => return true,
-    }
+    matches!(f, Far::GivenUp)
 }

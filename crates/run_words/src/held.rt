@@ -7,15 +7,14 @@ ghost use Rattle.run_words.specs.Lists.{remove_at};
 ghost use Rattle.run_words.specs.Raw.{BoundedEnd, end_of, end_words, side_radix, end_by};
 ghost use Rattle.run_words.specs.Values.{end_in, held_in, Written};
 
-use crate::records::{CHANNEL_RADIX, END_WORDS, End, HELD_WORDS, Held, SIDE_RADIX};
+use crate::records::{CHANNEL_RADIX, END_WORDS, End, HELD_WORDS, Held, NOTHING, SIDE_RADIX};
 
 // Nothing held.
 pub fn no_ends() -> Held
     ensures result_value { held_in result ≡ [] }
     ensures count_value { result.count ≡ 0 }
 {
-    let w = [0u32; HELD_WORDS];
-    Held { count: 0, words: w }
+    NOTHING
 }
 
 // The end of two words.
@@ -37,21 +36,18 @@ pub fn end_at(h: Held, k: usize) -> End
     ensures k_value { get_elem? (held_in h) k ≡ some (end_in result) }
     ensures side_lt_side_radix { (result.side < side_radix) × (result.channel < channel_places) }
 {
-    let a = h.words[END_WORDS * k];
-    let b = h.words[END_WORDS * k + 1];
-    unpacked(a, b)
+    unpacked(h.words[END_WORDS * k], h.words[END_WORDS * k + 1])
 }
 
 // The words of an end at a position.
-fn put_end(words: [u32; HELD_WORDS], k: usize, e: End) -> [u32; HELD_WORDS]
+fn put_end(mut words: [u32; HELD_WORDS], k: usize, e: End) -> [u32; HELD_WORDS]
     requires k_lt_held_limit { k < held_limit }
     requires bounded_end { BoundedEnd (end_in e) × (e.side < side_radix) }
     ensures { Written end_of end_words words result (end_words * k) (end_in e) }
 {
-    let mut w = words;
-    w[END_WORDS * k] = e.name * SIDE_RADIX + e.side;
-    w[END_WORDS * k + 1] = e.node * CHANNEL_RADIX + e.channel;
-    w
+    words[END_WORDS * k] = e.name * SIDE_RADIX + e.side;
+    words[END_WORDS * k + 1] = e.node * CHANNEL_RADIX + e.channel;
+    words
 }
 
 // With one end more, the youngest.
@@ -61,12 +57,9 @@ pub fn with(h: Held, e: End) -> Held
     ensures result_value { held_in result ≡ held_in h ++ (end_in e ∷ []) }
     ensures count_value { result.count ≡ h.count + 1 }
 {
-    let n = h.count;
-    let words = h.words;
-    let w = put_end(words, n, e);
     Held {
-        count: n + 1,
-        words: w,
+        count: h.count + 1,
+        words: put_end(h.words, h.count, e),
     }
 }
 
@@ -77,10 +70,10 @@ pub fn replaced(h: Held, k: usize, e: End) -> Held
     ensures result_value { held_in result ≡ set (held_in h) k (end_in e) }
     ensures count_value { result.count ≡ h.count }
 {
-    let n = h.count;
-    let words = h.words;
-    let w = put_end(words, k, e);
-    Held { count: n, words: w }
+    Held {
+        words: put_end(h.words, k, e),
+        ..h
+    }
 }
 
 // Without the end at a position: those after it move down.
@@ -89,15 +82,10 @@ pub fn without(h: Held, k: usize) -> Held
     ensures result_value { held_in result ≡ remove_at k (held_in h) }
     ensures count_value { result.count + 1 ≡ h.count }
 {
-    let last = h.count - 1;
-    let mut w = h.words;
-    let mut j = END_WORDS * k;
-    while j < END_WORDS * last {
-        w[j] = w[j + END_WORDS];
-        j += 1;
-    }
+    let mut words = h.words;
+    words.copy_within(END_WORDS * (k + 1)..END_WORDS * h.count, END_WORDS * k);
     Held {
-        count: last,
-        words: w,
+        count: h.count - 1,
+        words,
     }
 }

@@ -10,7 +10,6 @@ ghost use Rattle.run_words.specs.Operations.{on_outside, with_given, outside_at,
 use crate::records::{
     CHANNEL_RADIX, Change, GIVEN, OUTSIDE_COUNT, OUTSIDE_WORDS, OUTSIDES_AT, Outside,
 };
-use notation::reading::Found;
 use notation::words::wide;
 
 // How many there are.
@@ -47,12 +46,10 @@ pub(crate) fn get_outside(run: &[u32], k: usize) -> Outside
     ensures channel_lt_channel_places { result.channel < channel_places }
 {
     let at = OUTSIDES_AT + OUTSIDE_WORDS * k;
-    let a = run[at];
-    let b = run[at + 1];
     Outside {
-        number: a,
-        node: b / CHANNEL_RADIX,
-        channel: b % CHANNEL_RADIX,
+        number: run[at],
+        node: run[at + 1] / CHANNEL_RADIX,
+        channel: run[at + 1] % CHANNEL_RADIX,
     }
 }
 
@@ -68,21 +65,18 @@ pub fn outside_at(run: &[u32], k: usize) -> Outside
 }
 
 // The first position with a channel.
-pub(crate) fn find_outside(run: &[u32], channel: u32) -> Found
+pub(crate) fn find_outside(run: &[u32], channel: u32) -> Option<usize>
     requires run_words_in_bounds { run_words ≤ length run.now }
     requires bounded { Bounded (raw_in run.now) }
     ensures { result ≡ outside_at channel (raw_in run.now).outside }
 {
-    let n = outside_count(run);
-    let mut k: usize = 0;
-    while k < n {
+    for k in 0..outside_count(run) {
         let o = outside_at(run, k);
         if channel == o.channel {
-            return Found::At(k);
+            return Some(k);
         }
-        k += 1;
     }
-    Found::Nothing
+    None
 }
 
 // The words of a channel at a position.
@@ -129,16 +123,13 @@ pub fn let_go(run: &mut [u32], channel: u32)
     ensures changed { Changed run.old run.new (on_outside (let_go channel) (raw_in run.old)) }
     ensures bounded_2 { Bounded (raw_in run.new) }
 {
-    let n = outside_count(run);
     let mut j: usize = 0;
-    let mut k: usize = 0;
-    while k < n {
+    for k in 0..outside_count(run) {
         let o = get_outside(run, k);
         if channel != o.channel {
             put_outside(run, j, o);
             j += 1;
         }
-        k += 1;
     }
     run[OUTSIDE_COUNT] = j as u32;
 }
@@ -148,16 +139,8 @@ fn changed(o: Outside, change: Change) -> Outside
     ensures { outside_in result ≡ changed_by change (outside_in o) }
 {
     match change {
-        Change::Node(node) => Outside {
-            number: o.number,
-            node: node,
-            channel: o.channel,
-        },
-        Change::Channel(channel) => Outside {
-            number: o.number,
-            node: o.node,
-            channel: channel,
-        },
+        Change::Node(node) => Outside { node, ..o },
+        Change::Channel(channel) => Outside { channel, ..o },
     }
 }
 
@@ -169,13 +152,10 @@ fn change_outside(run: &mut [u32], channel: u32, change: Change)
     ensures changed { Changed run.old run.new (on_outside (changed_outside channel (changed_by change)) (raw_in run.old)) }
     ensures bounded_2 { Bounded (raw_in run.new) }
 {
-    let f = find_outside(run, channel);
-    let Found::At(k) = f else {
-        return;
-    };
-    let o = outside_at(run, k);
-    let p = changed(o, change);
-    set_outside(run, k, p);
+    if let Some(k) = find_outside(run, channel) {
+        let o = outside_at(run, k);
+        set_outside(run, k, changed(o, change));
+    }
 }
 
 // Another type for a channel.

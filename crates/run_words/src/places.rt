@@ -31,13 +31,9 @@ fn relink(run: &mut [u32], i: usize, up: bool)
     requires bounded { Bounded (raw_in run.old) }
     ensures { Changed run.old run.new (on_processes (map (relinked (moved up i))) (raw_in run.old)) }
 {
-    let n = count(run);
-    let mut k: usize = 0;
-    while k < n {
+    for k in 0..count(run) {
         let at = LINKS_AT + PLACE_WORDS * k;
-        let link = moved_link(run[at], i, up);
-        run[at] = link;
-        k += 1;
+        run[at] = moved_link(run[at], i, up);
     }
 }
 

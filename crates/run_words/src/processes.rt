@@ -31,16 +31,15 @@ pub(crate) fn get(run: &[u32], i: usize) -> Process
     ensures count_le_held_limit { result.held.count ≤ held_limit }
 {
     let at = PLACES_AT + PLACE_WORDS * i;
-    let doing = run[at];
-    let link = run[at + LINK];
-    let n = wide(run[at + HELD_COUNT]);
-    let w = copy_out(run, at + ENDS);
-    let held = Held { count: n, words: w };
+    let Doing { kind, pointer } = doing(run, i);
     Process {
-        kind: doing % KIND_RADIX,
-        pointer: doing / KIND_RADIX,
-        link: link,
-        held: held,
+        kind,
+        pointer,
+        link: run[at + LINK],
+        held: Held {
+            count: held_count(run, i),
+            words: copy_out(run, at + ENDS),
+        },
     }
 }
 
@@ -72,9 +71,7 @@ pub fn held_end(run: &[u32], i: usize, k: usize) -> End
     ensures side_lt_side_radix { (result.side < side_radix) × (result.channel < channel_places) }
 {
     let at = ENDS_AT + PLACE_WORDS * i + END_WORDS * k;
-    let a = run[at];
-    let b = run[at + 1];
-    unpacked(a, b)
+    unpacked(run[at], run[at + 1])
 }
 
 // The process at a place.
@@ -97,10 +94,8 @@ pub(crate) fn put(run: &mut [u32], at: usize, p: Process)
 {
     run[at] = p.pointer * KIND_RADIX + p.kind;
     run[at + LINK] = p.link;
-    let h = p.held;
-    run[at + HELD_COUNT] = h.count as u32;
-    let w = h.words;
-    copy_words(&w, 0, run, at + ENDS, HELD_WORDS);
+    run[at + HELD_COUNT] = p.held.count as u32;
+    copy_words(&p.held.words, 0, run, at + ENDS, HELD_WORDS);
 }
 
 // Another process at a place.

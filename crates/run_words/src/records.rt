@@ -121,13 +121,6 @@ pub enum Change {
     Channel(u32),
 }
 
-// Who holds an end: the process at a place, at a position of what it holds.
-#[derive(Clone, Copy)]
-pub enum Holder {
-    At(usize, usize),
-    Nobody,
-}
-
 // A far end: held by the process at a place, at a position of what it holds; the outside's, at a position of its channels; given up.
 #[derive(Clone, Copy)]
 pub enum Far {

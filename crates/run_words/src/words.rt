@@ -10,11 +10,7 @@ pub fn copy_words(from: &[u32], at: usize, to: &mut [u32], into: usize, n: usize
     requires { (at + n ≤ length from.now) × (into + n ≤ length to.old) }
     ensures { Moved to.old to.new into (into + n) (λ k. get_or from.now (at + (k - into)) 0) }
 {
-    let mut k: usize = 0;
-    while k < n {
-        to[into + k] = from[at + k];
-        k += 1;
-    }
+    to[into..into + n].copy_from_slice(&from[at..at + n]);
 }
 
 // The words of what is held, from `at` on.
@@ -23,7 +19,7 @@ pub(crate) fn copy_out(run: &[u32], at: usize) -> [u32; HELD_WORDS]
     ensures { (k : ℕ) → k < held_words → get_or result k 0 ≡ get_or run.now (at + k) 0 }
 {
     let mut w = [0u32; HELD_WORDS];
-    copy_words(run, at, &mut w, 0, HELD_WORDS);
+    w.copy_from_slice(&run[at..at + HELD_WORDS]);
     w
 }
 
@@ -32,11 +28,7 @@ pub(crate) fn move_up(run: &mut [u32], from: usize, to: usize, by: usize)
     requires { (from ≤ to) × (to + by ≤ length run.old) }
     ensures { Moved run.old run.new (from + by) (to + by) (λ k. get_or run.old (k - by) 0) }
 {
-    let mut k = to;
-    while from < k {
-        k -= 1;
-        run[k + by] = run[k];
-    }
+    run.copy_within(from..to, from + by);
 }
 
 // The words from `from` up to `to` move down.
@@ -44,9 +36,5 @@ pub(crate) fn move_down(run: &mut [u32], from: usize, to: usize, by: usize)
     requires { (by ≤ from) × (from ≤ to) × (to ≤ length run.old) }
     ensures { Moved run.old run.new (from - by) (to - by) (λ k. get_or run.old (k + by) 0) }
 {
-    let mut k = from;
-    while k < to {
-        run[k - by] = run[k];
-        k += 1;
-    }
+    run.copy_within(from..to, from - by);
 }

@@ -1,14 +1,14 @@
 -- A law for each part that readings are made of: it is right about its phrase where its parts are.
-use Rattle.std.specs.Prelude.{ℕ, zero, suc, ◌≡◌, ◌≢◌, List, [], ◌∷◌, ◌++◌, Bool, cond}
+use Rattle.std.specs.Prelude.{ℕ, zero, suc, ◌≡◌, ◌≢◌, List, [], ◌∷◌, ◌++◌, Bool, cond, Ok}
 use Rattle.std.proofs.Math.Path.{refl}
 use Rattle.std.proofs.Common.{sym, ◌∙◌, ap, subst, append_assoc}
 use Rattle.std.proofs.Math.Bool.{true, false}
 use Rattle.std.proofs.Math.Dec.{eqb}
 use borrow.Author.Tests.{eqb-true, eqb-false}
 use Rattle.notation.specs.Token.{token_at, kind_at, k_fault}
+use Rattle.notation.specs.Refusals.{refuses}
 use Rattle.notation.specs.Reader.{Result, got, refused, on_token, part, lastly, past, fault, expect, misfit, limited}
 use Rattle.notation.specs.declared.reading.Cursor.{Cursor}
-use Rattle.notation.specs.declared.reading.Taken.TheVariants.{At, Refused}
 use Rattle.grammar.specs.Terminals.{Tok, Terminal, token_of, following}
 use Rattle.grammar.specs.Counting.{Counts, counted, Fits, Within}
 use Rattle.grammar.specs.Counting as counting
@@ -198,7 +198,7 @@ module _ {s : List ℕ} {A : Type 0} {F : ℕ → Type 0} {E : Cursor → Counts
     unfolding expect
     right_expect f fit h = go (eqb (kind_at s c.at) k) refl
       where
-        go : (b : Bool) → eqb (kind_at s c.at) k ≡ b → Right s F E (one ρ φ) m c (on_token (cond b (At (token_at s c.at).start (past c (token_at s c.at))) (Refused (fault (token_at s c.at)) (token_at s c.at).start)) f)
+        go : (b : Bool) → eqb (kind_at s c.at) k ≡ b → Right s F E (one ρ φ) m c (on_token (cond b (Ok ((token_at s c.at).start, past c (token_at s c.at))) (refuses (fault (token_at s c.at)) (token_at s c.at).start)) f)
         go true e = let z = eqb-true (kind_at s c.at) k e in right_past _ _ z refl (fit z) (h z)
         go false e = unfit (eqb-false (kind_at s c.at) k e)
 
@@ -209,11 +209,11 @@ module _ {s : List ℕ} {A : Type 0} {F : ℕ → Type 0} {E : Cursor → Counts
     unfolding expect
     right_limited fits more f same yes' no' h = go (eqb (kind_at s c.at) k) refl
       where
-        at_limit : kind_at s c.at ≡ k → (b : Bool) → fits (past c (token_at s c.at)) ≡ b → Right s F E (one ρ φ) m c (on_token (cond b (At (token_at s c.at).start (more (past c (token_at s c.at)))) (Refused 5 (token_at s c.at).start)) f)
+        at_limit : kind_at s c.at ≡ k → (b : Bool) → fits (past c (token_at s c.at)) ≡ b → Right s F E (one ρ φ) m c (on_token (cond b (Ok ((token_at s c.at).start, more (past c (token_at s c.at)))) (refuses 5 (token_at s c.at).start)) f)
         at_limit z true e = right_past _ _ z (same _) (yes' e) (h z e)
         at_limit z false e = right_over z (no' e)
 
-        go : (b : Bool) → eqb (kind_at s c.at) k ≡ b → Right s F E (one ρ φ) m c (on_token (limited (cond b (At (token_at s c.at).start (past c (token_at s c.at))) (Refused (fault (token_at s c.at)) (token_at s c.at).start)) fits more) f)
+        go : (b : Bool) → eqb (kind_at s c.at) k ≡ b → Right s F E (one ρ φ) m c (on_token (limited (cond b (Ok ((token_at s c.at).start, past c (token_at s c.at))) (refuses (fault (token_at s c.at)) (token_at s c.at).start)) fits more) f)
         go true e = at_limit (eqb-true (kind_at s c.at) k e) (fits (past c (token_at s c.at))) refl
         go false e = unfit (eqb-false (kind_at s c.at) k e)
 

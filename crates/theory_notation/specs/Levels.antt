@@ -1,5 +1,5 @@
 -- What counts have to do with a cursor, and a law for each kind of token that readings take.
-use Rattle.std.specs.Prelude.{ℕ, suc, ◌-◌, ◌<◌, ◌≡◌, List}
+use Rattle.std.specs.Prelude.{ℕ, suc, ◌-◌, ◌<◌, ◌≡◌, List, Ok, Err}
 use Rattle.std.proofs.Math.Path.{refl, ap, subst}
 use Rattle.std.proofs.Common.{◌∙◌, arith}
 use Rattle.std.proofs.Math.Dec.{ltb}
@@ -7,12 +7,10 @@ use borrow.Author.Tests.{ltb-true, ltb-false}
 use Rattle.notation.specs.Limits.{type_term_limit, process_term_limit, bracket_limit, label_limit}
 use Rattle.notation.specs.Token.{token_at, k_round_open, k_round_close}
 use Rattle.notation.specs.Tree.{Located}
-use Rattle.notation.specs.Reader.{Result, got, on_token, past, expect, opening, may_open, deeper, type_term, may_type, with_type, process_term, may_process, with_process, closed, closed_taken, onward_from, then_token, label_in}
+use Rattle.notation.specs.Reader.{Result, Taken, got, on_token, past, expect, opening, may_open, deeper, type_term, may_type, with_type, process_term, may_process, with_process, closed, closed_taken, onward_from, then_token, label_in}
 use Rattle.notation.specs.Types.{label_term}
 use Rattle.notation.specs.Processes.{unit_taken}
 use Rattle.notation.specs.declared.reading.Cursor.{Cursor}
-use Rattle.notation.specs.declared.reading.Taken.{Taken}
-use Rattle.notation.specs.declared.reading.Taken.TheVariants.{At, Refused}
 use Rattle.grammar.specs.Terminals.{Terminal, closes}
 use Rattle.grammar.specs.Counting.{Counts, counts, counted, Fits}
 use Rattle.theory_notation.specs.Phrases.{Phrase, Role, one, ret, Right}
@@ -116,12 +114,12 @@ module _ {s : List ℕ} {base : Counts} {o : ℕ} {A : Type 0} {F : ℕ → Type
 
 -- ()
 taken_twice : {A : Type 0} (c : Cursor) (t : Taken) (g : Cursor → Taken) (f : ℕ → Cursor → Result A) → on_token t (λ i d. on_token (g d) (λ _ e. f i (closed c e))) ≡ on_token (closed_taken c (then_token t g)) f
-taken_twice c (At i d) g f = go (g d)
+taken_twice c (Ok (i, d)) g f = go (g d)
   where
     go : (u : Taken) → on_token u (λ _ e. f i (closed c e)) ≡ on_token (closed_taken c (onward_from i u)) f
-    go (At j e) = refl
-    go (Refused n j) = refl
-taken_twice c (Refused n i) g f = refl
+    go (Ok (j, e)) = refl
+    go (Err e) = refl
+taken_twice c (Err e) g f = refl
 
 module _ {s : List ℕ} {base : Counts} {o : ℕ} {A : Type 0} {F : ℕ → Type 0} {E : Cursor → Counts → Type 0} {m : Counts} {c : Cursor} (lv : Level base o c m) where
   pub right_unit : (φ : Phrase s A) (f : ℕ → Cursor → Result A)

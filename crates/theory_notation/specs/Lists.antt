@@ -1,18 +1,17 @@
 -- The reading of a list in brackets is right about the rules: of a call's names, and of a signature's entries.
 use Prim.Native.Nat.{ℕ, zero, suc}
-use Rattle.std.specs.Prelude.{◌≡◌, List, [], ◌∷◌, ◌++◌, Bool, true, false, cond, eqb, ◌≢◌}
+use Rattle.std.specs.Prelude.{◌≡◌, List, [], ◌∷◌, ◌++◌, Bool, true, false, cond, eqb, ◌≢◌, Ok, Err}
 use Rattle.std.proofs.Math.Path.{refl, subst}
 use Rattle.std.proofs.Common.{sym, ◌∙◌, ap, append_assoc, true≢false, arith, eqb-true, ltb-true}
 use Rattle.std.proofs.lemmas.Bool.{false≢true, eqb-false}
 use Rattle.notation.specs.Token.{token_at, kind_at, k_name, k_one, k_colon, k_comma}
 use Rattle.notation.specs.Tree.{Located, Ty, Entry}
-use Rattle.notation.specs.Reader.{Result, got, refused, on_token, part, lastly, choose, past, fault, expect, limited, may_open, deeper, opening, closed}
+use Rattle.notation.specs.Refusals.{refuses}
+use Rattle.notation.specs.Reader.{Result, Taken, got, refused, on_token, part, lastly, choose, past, fault, expect, limited, may_open, deeper, opening, closed}
 use Rattle.notation.specs.Types.{is_infix}
 use Rattle.notation.specs.Processes.{read_names, name_list}
 use Rattle.notation.specs.Scripts.{read_entries, entry_list}
 use Rattle.notation.specs.declared.reading.Cursor.{Cursor}
-use Rattle.notation.specs.declared.reading.Taken.{Taken}
-use Rattle.notation.specs.declared.reading.Taken.TheVariants.{At, Refused}
 use Rattle.grammar.specs.Terminals.{Tok, Terminal, type_mark, closes, name, mark}
 use Rattle.grammar.specs.Grammar as rule
 use Rattle.grammar.specs.Grammar.{IsType, IsChannel, IsEntry, Commas, Listing}
@@ -122,30 +121,30 @@ module _ (s : List ℕ) {X : Type 0} (Item : List Terminal → X → Type 0) (be
 
 -- ── parts in a row, however they are put together
 abbrev OnlyAt : ℕ → Taken → Type 0
-OnlyAt a (At i d) = i ≡ a
-OnlyAt a (Refused n i) = Unit {0}
+OnlyAt a (Ok (i, d)) = i ≡ a
+OnlyAt a (Err e) = Unit {0}
 
 at_start : {A : Type 0} (a : ℕ) (t : Taken) → OnlyAt a t → (g : ℕ → Cursor → Result A) → on_token t g ≡ on_token t (λ _ d. g a d)
-at_start a (At i d) e g = ap (λ i. g i d) e
-at_start a (Refused n i) e g = refl
+at_start a (Ok (i, d)) e g = ap (λ i. g i d) e
+at_start a (Err z) e g = refl
 
 only_either : (a : ℕ) (b : Bool) (t u : Taken) → OnlyAt a t → OnlyAt a u → OnlyAt a (cond b t u)
 only_either a true t u x y = x
 only_either a false t u x y = y
 
 only_limited : (a : ℕ) (t : Taken) (fits : Cursor → Bool) (on : Cursor → Cursor) → OnlyAt a t → OnlyAt a (limited t fits on)
-only_limited a (At i d) fits on e = only_either a (fits d) (At i (on d)) (Refused 5 i) e tt
-only_limited a (Refused n i) fits on e = tt
+only_limited a (Ok (i, d)) fits on e = only_either a (fits d) (Ok (i, on d)) (refuses 5 i) e tt
+only_limited a (Err z) fits on e = tt
 
 opening_at : (s : List ℕ) (k : ℕ) (c : Cursor) → OnlyAt (token_at s c.at).start (opening s k c)
 unfolding opening expect
 opening_at s k c =
     only_limited (token_at s c.at).start (expect s k c) may_open deeper
-    (only_either (token_at s c.at).start (eqb (kind_at s c.at) k) (At (token_at s c.at).start (past c (token_at s c.at))) (Refused (fault (token_at s c.at)) (token_at s c.at).start) refl tt)
+    (only_either (token_at s c.at).start (eqb (kind_at s c.at) k) (Ok ((token_at s c.at).start, past c (token_at s c.at))) (refuses (fault (token_at s c.at)) (token_at s c.at).start) refl tt)
 
 part_take : {A B : Type 0} (t : Taken) (g : ℕ → Cursor → Result B) (h : B → Cursor → Result A) → part (on_token t g) h ≡ on_token t (λ i d. part (g i d) h)
-part_take (At i d) g h = refl
-part_take (Refused n i) g h = refl
+part_take (Ok (i, d)) g h = refl
+part_take (Err e) g h = refl
 
 part_part : {A B : Type 0} (r : Result B) (up : Cursor → Cursor) (h : B → Cursor → Result A) → part r (λ b e. h b (up e)) ≡ part (part r λ b e. got b (up e)) h
 part_part (got b e) up h = refl

@@ -10,7 +10,7 @@ use Rattle.calculus.specs.WellFormed.{WellFormed}
 use Rattle.calculus.specs.Reduces.{Lacks, Open, Applies}
 use Rattle.calculus.specs.declared.answers.Seen.{Seen}
 use Rattle.calculus.specs.declared.answers.RanOn.{RanOn}
-use Rattle.calculus.specs.declared.answers.RanOn.TheVariants.{Uncaught, Shown, Done, Full, Stopped, Refused}
+use Rattle.calculus.specs.declared.answers.RanOn.TheVariants.{Uncaught, Shown, Done, Full, Stopped}
 use Rattle.theory_reductions.specs.CarriedOut.{carried_out_lem, halts_out}
 use Rattle.theory_progress.specs.Progress.{some_open_lem}
 use Rattle.theory_progress.specs.Chosen.{First, chosen_first, none_chosen}
@@ -52,7 +52,6 @@ is_uncaught_lem (Shown seen t) = false
 is_uncaught_lem (Done t) = false
 is_uncaught_lem (Full t) = false
 is_uncaught_lem (Stopped t) = false
-is_uncaught_lem (Refused n i) = false
 
 module _ (p : Program) (budget n : ℕ) (C : Config) (D : Config) where
   caught : {a : RanOn} → is_uncaught_lem a ≡ false → D.halted ≡ false → (D.halted ≡ true) ↔ ((t : ℕ) × (a ≡ Uncaught t))
@@ -64,7 +63,6 @@ module _ (p : Program) (budget n : ℕ) (C : Config) (D : Config) where
   uncaught_where (Done t) h = caught refl h.2
   uncaught_where (Full t) h = caught refl h.2
   uncaught_where (Stopped t) h = caught refl h.2
-  uncaught_where (Refused k i) h = absurd h
 
 pub run_on_uncaught : (p : Program) (C : Config) (budget : ℕ)
     → ((run_on p C budget).config.halted ≡ true) ↔ ((t : ℕ) × ((run_on p C budget).answer ≡ Uncaught t))
@@ -77,7 +75,6 @@ is_done (Shown seen t) = false
 is_done (Done t) = true
 is_done (Full t) = false
 is_done (Stopped t) = false
-is_done (Refused n i) = false
 
 -- a step that shows something leaves a process
 shown_left : (p : Program) (n : ℕ) (C : Config) (seen : Seen) (D : Config) → showing_to p n C seen D → D.processes ≢ []
@@ -102,7 +99,6 @@ module _ (p : Program) (budget n : ℕ) (C : Config) (D : Config) where
   done_where (Done t) h = (λ e. (t, refl), λ d. (h.2, h.3))
   done_where (Full t) h = not_done refl (λ (g, e). h.3 e)
   done_where (Stopped t) h = not_done refl (λ (g, e). h.3 e)
-  done_where (Refused k i) h = absurd h
 
 pub run_on_done : (p : Program) (C : Config) (budget : ℕ)
     → (((run_on p C budget).config.halted ≡ false) × ((run_on p C budget).config.processes ≡ [])) ↔ ((t : ℕ) × ((run_on p C budget).answer ≡ Done t))

@@ -10,7 +10,7 @@ use Rattle.calculus.specs.Runs.{choose_place, Ran, ran, or_full, or_done, or_sho
 use Rattle.calculus.specs.declared.answers.Seen.{Seen}
 use Rattle.calculus.specs.declared.answers.Seen.TheVariants.{Nothing, Label, Close, Passed, Cancelled}
 use Rattle.calculus.specs.declared.answers.RanOn.{RanOn}
-use Rattle.calculus.specs.declared.answers.RanOn.TheVariants.{Uncaught, Shown, Done, Full, Stopped, Refused}
+use Rattle.calculus.specs.declared.answers.RanOn.TheVariants.{Uncaught, Shown, Done, Full, Stopped}
 use Rattle.theory_reductions.specs.Halting.{Takes, carries_out, halts, carried_keeps}
 use Rattle.theory_progress.specs.Chosen.{chosen_first}
 
@@ -57,7 +57,6 @@ Ended p budget n C (Shown seen t) D = (n ≤ budget) × showing_to p n C seen D 
 Ended p budget n C (Done t) D = (n ≤ budget) × quietly_to p n C D × (D.halted ≡ false) × (D.processes ≡ [])
 Ended p budget n C (Full t) D = (n ≤ budget) × quietly_to p n C D × (D.halted ≡ false) × (D.processes ≢ []) × (choose_place p D ≡ none)
 Ended p budget n C (Stopped t) D = (n ≡ budget) × quietly_to p n C D × (D.halted ≡ false) × (D.processes ≢ []) × (i : ℕ) × (choose_place p D ≡ some i)
-Ended p budget n C (Refused k i) D = ⊥
 
 -- the number that an answer gives
 abbrev pub given : RanOn → ℕ
@@ -66,7 +65,6 @@ given (Shown seen t) = t
 given (Done t) = t
 given (Full t) = t
 given (Stopped t) = t
-given (Refused k i) = 0
 
 -- one quiet step before
 showing_later : (p : Program) (n : ℕ) {C E : Config} → Chosen p C Nothing E → (seen : Seen) (D : Config) → showing_to p n E seen D
@@ -81,7 +79,6 @@ later p budget n c (Shown s t) D h = (suc-le-suc h.0, showing_later p n c s D h.
 later p budget n {E = E} c (Done t) D h = (suc-le-suc h.0, (E, c, h.1), h.2, h.3)
 later p budget n {E = E} c (Full t) D h = (suc-le-suc h.0, (E, c, h.1), h.2, h.3, h.4)
 later p budget n {E = E} c (Stopped t) D h = (ap suc h.0, (E, c, h.1), h.2, h.3, h.4, h.5)
-later p budget n c (Refused k i) D h = h
 
 -- a run that gives the number of its steps beside those taken before
 record Counts (p : Program) (budget taken : ℕ) (C : Config) (r : Ran) : Type 0 where
@@ -187,7 +184,6 @@ run_on_steps p C budget = go _ _ (run_on p C budget).answer (run_on_ends p C bud
     go n D (Done t) h = quiet_steps p n C D h.1
     go n D (Full t) h = quiet_steps p n C D h.1
     go n D (Stopped t) h = quiet_steps p n C D h.1
-    go n D (Refused k i) h = absurd h
 
 -- a run that has halted takes no further step
 halted_test : (C : Config) (taken : ℕ) (r : Ran) → C.halted ≡ true → or_uncaught C.halted taken C r ≡ ran (Uncaught taken) C

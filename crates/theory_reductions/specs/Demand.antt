@@ -1,5 +1,5 @@
 -- Demand 2: a script is accepted exactly where the typing rules derive it, and a step is carried out exactly as the reduction rules say.
-use Rattle.std.specs.Prelude.{ℕ, ◌≡◌, refl, ◌↔◌, ◌⊎◌, List, Bool, true, false}
+use Rattle.std.specs.Prelude.{ℕ, ◌≡◌, refl, ◌↔◌, ◌⊎◌, List, Bool, true, false, Ok, Err}
 use Rattle.std.proofs.Common.{sym, ◌∙◌, ap, inl, inr}
 use Rattle.std.proofs.lemmas.Bool.{false≢true}
 use Rattle.std.proofs.Math.Option.{Option, some, none}
@@ -24,9 +24,9 @@ use Rattle.theory_reductions.specs.StepIff.{step_iff, halts_iff, applies_place}
 abbrev told_in : Reply → Outcome
 told_in r = elim r.answer [
   | started a ↦ not_open
-  | stepped (Answers.Carried s) ↦ carried s r.config
-  | stepped Answers.Uncaught ↦ uncaught
-  | stepped (Answers.Refused n i) ↦ not_open
+  | stepped (Ok (Answers.Carried s)) ↦ carried s r.config
+  | stepped (Ok Answers.Uncaught) ↦ uncaught
+  | stepped (Err e) ↦ not_open
   | ran_on a ↦ not_open
   | reported a l ↦ not_open
   | surveyed a l ↦ not_open
@@ -40,7 +40,7 @@ module _ (text : List ℕ) (ds : List Declaration) (e : checked text ≡ accepte
   abbrev step_reply : Bool → Option Process → Outcome → Reply
   step_reply halted q r =
       let refuse = refusal C (call_step scratch run i) in
-      on_going halted refuse (on_place q refuse (on_step r refuse (λ seen D. reply (stepped (Answers.Carried seen)) D) (reply (stepped Answers.Uncaught) (halt C))))
+      on_going halted refuse (on_place q refuse (on_step r refuse (λ seen D. reply (stepped (Ok (Answers.Carried seen))) D) (reply (stepped (Ok Answers.Uncaught)) (halt C))))
 
   answer : respond text C (call_step scratch run i) ≡ step_reply C.halted (at C i) (step p C i)
   unfolding respond text_checked

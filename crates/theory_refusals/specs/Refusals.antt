@@ -1,13 +1,14 @@
 -- Demand 1's "Whoever calls .. gets an answer or a numbered refusal": the numbers of the refusals of a text and of a call.
-use Rattle.std.specs.Prelude.{ℕ, zero, suc, ◌≤◌, ◌≡◌, refl, ◌≢◌, ◌⊎◌, List, [], Bool, true, false, cond, leb}
+use Rattle.std.specs.Prelude.{ℕ, zero, suc, ◌≤◌, ◌≡◌, refl, ◌≢◌, ◌⊎◌, List, [], Bool, true, false, cond, leb, Ok, Err}
 use Rattle.std.proofs.Common.{arith, subst, inl, inr}
 use Rattle.std.proofs.Math.Option.{Option, some, none}
 use Rattle.std.proofs.Math.ListN.{get_elem?}
 use Rattle.notation.specs.Limits.{scratch_words, run_words}
+use Rattle.notation.specs.Refusals.{OrRefusal}
 use Rattle.notation.specs.Tree.{Declaration}
 use Rattle.notation.specs.Reader.{Result, got, refused}
 use Rattle.notation.specs.Scripts.{read_text}
-use Rattle.calculus.specs.Answers.{started_as, stepped_as, ran_on_as, reported_as, surveyed_as}
+use Rattle.calculus.specs.Answers.{started_as, stepped_as, ran_on_as, counted_as}
 use Rattle.calculus.specs.Program.{Program}
 use Rattle.calculus.specs.Verdict as verdicts
 use Rattle.calculus.specs.Verdict.{Verdict, fine, and_then}
@@ -21,12 +22,7 @@ use Rattle.calculus.specs.Machine.{Call, call_start, call_step, call_run_on, cal
 use Rattle.calculus.specs.Demands.{is_refused}
 use Rattle.calculus.specs.declared.answers.Seen.{Seen}
 use Rattle.calculus.specs.declared.answers.RanOn.{RanOn}
-use Rattle.calculus.specs.declared.answers.Started.TheVariants as starts
-use Rattle.calculus.specs.declared.answers.Stepped.TheVariants as steps
 use Rattle.calculus.specs.declared.answers.RanOn.TheVariants as runs
-use Rattle.calculus.specs.declared.answers.Reported.TheVariants as reports
-use Rattle.calculus.specs.declared.answers.Surveyed.TheVariants as surveys
-use Rattle.theory_progress.specs.RunOn.{Ended, run_on_ends}
 use Rattle.theory_refusals.specs.Verdicts.{Between, Refusing, DeclaredFault, TypingFault, declared_within, typed_within}
 use Rattle.notation.proofs.ScriptReadings.{read_numbered}
 
@@ -58,31 +54,25 @@ checked_numbered s = go (read_text s) refl
     go (refused m j) e = let h = read_numbered s m j e in fault_in m j (omega arith)
 
 -- ── a call
+abbrev offset_in : {A : Type 0} → OrRefusal A → ℕ
+offset_in (Ok x) = 0
+offset_in (Err r) = r.at
+
 -- the refusal's number in an answer, and its offset; 0 where there is none
 abbrev pub refusal_of : Answer → ℕ
 refusal_of (started a) = (started_as a).refusal
 refusal_of (stepped a) = (stepped_as a).refusal
 refusal_of (ran_on a) = (ran_on_as a).refusal
-refusal_of (reported a l) = (reported_as a).refusal
-refusal_of (surveyed a l) = (surveyed_as a).refusal
+refusal_of (reported a l) = (counted_as a).refusal
+refusal_of (surveyed a l) = (counted_as a).refusal
 refusal_of (name_given l n i) = n
 
 abbrev pub offset_of : Answer → ℕ
-offset_of (started starts.Begun) = 0
-offset_of (started (starts.Refused n i)) = i
-offset_of (stepped (steps.Carried s)) = 0
-offset_of (stepped steps.Uncaught) = 0
-offset_of (stepped (steps.Refused n i)) = i
-offset_of (ran_on (runs.Uncaught t)) = 0
-offset_of (ran_on (runs.Shown s t)) = 0
-offset_of (ran_on (runs.Done t)) = 0
-offset_of (ran_on (runs.Full t)) = 0
-offset_of (ran_on (runs.Stopped t)) = 0
-offset_of (ran_on (runs.Refused n i)) = i
-offset_of (reported (reports.Open n) l) = 0
-offset_of (surveyed (surveys.Processes n) l) = 0
-offset_of (reported (reports.Refused n i) l) = i
-offset_of (surveyed (surveys.Refused n i) l) = i
+offset_of (started a) = offset_in a
+offset_of (stepped a) = offset_in a
+offset_of (ran_on a) = offset_in a
+offset_of (reported a l) = offset_in a
+offset_of (surveyed a l) = offset_in a
 offset_of (name_given l n i) = i
 
 -- a call can "fail on 16 to 22 only where that argument exists"; the plain machine never on 18
@@ -124,7 +114,7 @@ name_refused scratch line zero i h z = absurd (omega arith)
 name_refused scratch line (suc n) i h z = record { holds = h }
 
 refuses : (C : Config) (c : Call) (n i : ℕ) → Refuses c n i → Answers c (refusal C c n i).answer
-unfolding started_as stepped_as ran_on_as reported_as surveyed_as
+unfolding started_as stepped_as ran_on_as counted_as
 refuses C (call_start scratch run line) n i h = record { holds = h }
 refuses C (call_step scratch run place) n i h = record { holds = h }
 refuses C (call_run_on scratch run budget) n i h = record { holds = h }
@@ -177,21 +167,17 @@ module _ (C : Config) (c : Call) where
   by_step lacking k r g h f u = by_arguments 21 h
 
 -- a run-on's own answer is no refusal
-ran_answers : (p : Program) (C : Config) (scratch run budget : ℕ) → Answers (call_run_on scratch run budget) (ran_on (run_on p C budget).answer)
+ran_answers : (scratch run budget : ℕ) (a : RanOn) → Answers (call_run_on scratch run budget) (ran_on (Ok a))
 unfolding ran_on_as
-ran_answers p C scratch run budget = go _ (run_on p C budget).answer _ (run_on_ends p C budget)
-  where
-    go : (n : ℕ) (a : RanOn) (D : Config) → Ended p budget n C a D → Answers (call_run_on scratch run budget) (ran_on a)
-    go n (runs.Uncaught t) D h = record { holds = (refl, refl) }
-    go n (runs.Shown s t) D h = record { holds = (refl, refl) }
-    go n (runs.Done t) D h = record { holds = (refl, refl) }
-    go n (runs.Full t) D h = record { holds = (refl, refl) }
-    go n (runs.Stopped t) D h = record { holds = (refl, refl) }
-    go n (runs.Refused k i) D h = absurd h
+ran_answers scratch run budget (runs.Uncaught t) = record { holds = (refl, refl) }
+ran_answers scratch run budget (runs.Shown s t) = record { holds = (refl, refl) }
+ran_answers scratch run budget (runs.Done t) = record { holds = (refl, refl) }
+ran_answers scratch run budget (runs.Full t) = record { holds = (refl, refl) }
+ran_answers scratch run budget (runs.Stopped t) = record { holds = (refl, refl) }
 
 -- every call gets an answer or a numbered refusal
 pub respond_answers : (s : List ℕ) (C : Config) (c : Call) → Answers c (respond s C c).answer
-unfolding respond started_as stepped_as reported_as surveyed_as
+unfolding respond started_as stepped_as counted_as
 respond_answers s C (call_start scratch run line) =
     let c = call_start scratch run line in
     by_text C c s scratch _ λ p.
@@ -205,7 +191,7 @@ respond_answers s C (call_step scratch run place) =
     (by_step C c (step p C place) _ _ (inr (omega arith)) (inr (omega arith)) (λ seen D. record { holds = (refl, refl) }) (record { holds = (refl, refl) }))))
 respond_answers s C (call_run_on scratch run budget) =
     let c = call_run_on scratch run budget in
-    by_text C c s scratch _ λ p. by_run C c run _ refl (ran_answers p C scratch run budget)
+    by_text C c s scratch _ λ p. by_run C c run _ refl (ran_answers scratch run budget (run_on p C budget).answer)
 respond_answers s C (call_report scratch run) =
     let c = call_report scratch run in
     by_text C c s scratch _ λ p. by_run C c run _ refl (record { holds = (refl, refl) })

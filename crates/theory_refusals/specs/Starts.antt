@@ -1,16 +1,14 @@
 -- The tokens of a text, one after the other, and what a reading keeps to them: its cursor stands where a token is read from, and a refusal is at the start of one.
 -- A law for each part that readings are made of. Fuel that is spent is refused by 0, which no text is; and no reading is refused by 2.
-use Rattle.std.specs.Prelude.{ℕ, ◌≤◌, ◌<◌, ◌≡◌, refl, ◌≢◌, Bool, true, false, List, length, eqb}
+use Rattle.std.specs.Prelude.{ℕ, ◌≤◌, ◌<◌, ◌≡◌, refl, ◌≢◌, Bool, true, false, List, length, eqb, Ok, Err}
 use Rattle.std.proofs.Common.{arith, sym, subst}
 use borrow.Author.Tests.{eqb-true}
 use Rattle.notation.specs.Token.{token_at, k_round_open, k_round_close, k_label, k_fault}
-use Rattle.notation.specs.Reader.{Result, got, refused, on_token, part, lastly, choose, expect, fault, misfit, limited, opening, type_term, process_term, closed_taken, onward_from, then_token}
+use Rattle.notation.specs.Reader.{Result, Taken, got, refused, on_token, part, lastly, choose, expect, fault, misfit, limited, opening, type_term, process_term, closed_taken, onward_from, then_token}
 use Rattle.notation.specs.Types.{label_term}
 use Rattle.notation.specs.Processes.{unit_taken}
 use Rattle.notation.specs.declared.token.Token as tokens
 use Rattle.notation.specs.declared.reading.Cursor.{Cursor}
-use Rattle.notation.specs.declared.reading.Taken.{Taken}
-use Rattle.notation.specs.declared.reading.Taken.TheVariants.{At, Refused}
 use Rattle.notation.proofs.Tokens.{cond_both, token_onward}
 
 -- an offset from which one of the text's tokens is read: the text's first, or past a token that is read from such an offset
@@ -30,8 +28,8 @@ start_within {s} h = let o = (token_onward s h.from).starts in let e = h.starts 
 
 -- ── what a reading comes to
 abbrev TakenOf : List ℕ → Taken → Type 0
-TakenOf s (At i d) = StartsToken s i × ReadFrom s d.at
-TakenOf s (Refused n i) = (3 ≤ n) × StartsToken s i
+TakenOf s (Ok (i, d)) = StartsToken s i × ReadFrom s d.at
+TakenOf s (Err e) = (3 ≤ e.number) × StartsToken s e.at
 
 pub record Token (s : List ℕ) (t : Taken) : Type 0 where
   pub holds : TakenOf s t
@@ -58,8 +56,8 @@ module _ {A : Type 0} {s : List ℕ} {P : A → Type 0} where
   keeps_spent = record { holds = (λ e. absurd (omega (arith, e)), λ l. absurd (omega (arith, l))) }
 
   pub keeps_token : {t : Taken} {f : ℕ → Cursor → Result A} → Token s t → ((i : ℕ) (d : Cursor) → StartsToken s i → ReadFrom s d.at → Keeps s P (f i d)) → Keeps s P (on_token t f)
-  keeps_token {t = At i d} h g = g i d h.holds.0 h.holds.1
-  keeps_token {t = Refused n i} h g = keeps_no h.holds.0 h.holds.1
+  keeps_token {t = Ok (i, d)} h g = g i d h.holds.0 h.holds.1
+  keeps_token {t = Err e} h g = keeps_no h.holds.0 h.holds.1
 
   pub keeps_part : {B : Type 0} {Q : B → Type 0} {r : Result B} {f : B → Cursor → Result A} → Keeps s Q r → ((b : B) (d : Cursor) → ReadFrom s d.at → Q b → Keeps s P (f b d)) → Keeps s P (part r f)
   keeps_part {r = got b d} h g = g b d h.holds.0 h.holds.1
@@ -86,9 +84,9 @@ module _ (s : List ℕ) (c : Cursor) (h : ReadFrom s c.at) where
   keeps_misfit = keeps_no (fault_number (token_at s c.at)) token_here
 
   limited_token : (t : Taken) (fits : Cursor → Bool) (more : Cursor → Cursor) → ((d : Cursor) → (more d).at ≡ d.at) → Token s t → Token s (limited t fits more)
-  limited_token (At i d) fits more e g =
+  limited_token (Ok (i, d)) fits more e g =
       cond_both (Token s) (fits d) _ _ (λ _. record { holds = (g.holds.0, subst (ReadFrom s) (sym (e d)) g.holds.1) }) (λ _. record { holds = (omega arith, g.holds.0) })
-  limited_token (Refused n i) fits more e g = record { holds = g.holds }
+  limited_token (Err z) fits more e g = record { holds = g.holds }
 
   module _ (k : ℕ) (l : k < k_fault) where
     pub expect_token : Token s (expect s k c)
@@ -120,16 +118,16 @@ module _ (s : List ℕ) (c : Cursor) (h : ReadFrom s c.at) where
 
 -- two tokens in a row
 onward_token : {s : List ℕ} (i : ℕ) (t : Taken) → StartsToken s i → Token s t → Token s (onward_from i t)
-onward_token i (At j e) h g = record { holds = (h, g.holds.1) }
-onward_token i (Refused n j) h g = record { holds = g.holds }
+onward_token i (Ok (j, e)) h g = record { holds = (h, g.holds.1) }
+onward_token i (Err e) h g = record { holds = g.holds }
 
 then_token_lem : {s : List ℕ} (t : Taken) (f : Cursor → Taken) → Token s t → ((d : Cursor) → ReadFrom s d.at → Token s (f d)) → Token s (then_token t f)
-then_token_lem (At i d) f h g = onward_token i (f d) h.holds.0 (g d h.holds.1)
-then_token_lem (Refused n i) f h g = record { holds = h.holds }
+then_token_lem (Ok (i, d)) f h g = onward_token i (f d) h.holds.0 (g d h.holds.1)
+then_token_lem (Err e) f h g = record { holds = h.holds }
 
 closed_token : {s : List ℕ} (b : Cursor) (t : Taken) → Token s t → Token s (closed_taken b t)
-closed_token b (At i d) h = record { holds = h.holds }
-closed_token b (Refused n i) h = record { holds = h.holds }
+closed_token b (Ok (i, d)) h = record { holds = h.holds }
+closed_token b (Err e) h = record { holds = h.holds }
 
 pub unit_token : (s : List ℕ) (c : Cursor) → ReadFrom s c.at → Token s (unit_taken s c)
 unfolding unit_taken

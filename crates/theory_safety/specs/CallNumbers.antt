@@ -1,5 +1,5 @@
 -- "numbers are never given twice in a run", of the answers to calls: a step's and a run-on's.
-use Rattle.std.specs.Prelude.{ℕ, zero, suc, ◌≤◌, ◌≡◌, refl, List, [], ◌∷◌, ◌++◌, true, false}
+use Rattle.std.specs.Prelude.{ℕ, zero, suc, ◌≤◌, ◌≡◌, refl, List, [], ◌∷◌, ◌++◌, true, false, Ok, Err}
 use Rattle.std.proofs.Common.{arith, sym, ◌∙◌, ap, subst, true≢false}
 use Rattle.std.proofs.lemmas.Bool.{false≢true}
 use Rattle.notation.specs.Tree.{Declaration}
@@ -21,15 +21,15 @@ use Rattle.theory_safety.specs.NeverTwice.{number_of, InOrder, one_step, order_o
 -- the number under which an answer shows a channel passed out, before those shown later
 abbrev pub shown_in : Answer → List ℕ → List ℕ
 shown_in (started a) r = r
-shown_in (stepped (steps.Carried seen)) r = number_of seen r
-shown_in (stepped steps.Uncaught) r = r
-shown_in (stepped (steps.Refused n i)) r = r
-shown_in (ran_on (runs.Uncaught t)) r = r
-shown_in (ran_on (runs.Shown seen t)) r = number_of seen r
-shown_in (ran_on (runs.Done t)) r = r
-shown_in (ran_on (runs.Full t)) r = r
-shown_in (ran_on (runs.Stopped t)) r = r
-shown_in (ran_on (runs.Refused n i)) r = r
+shown_in (stepped (Ok (steps.Carried seen))) r = number_of seen r
+shown_in (stepped (Ok steps.Uncaught)) r = r
+shown_in (stepped (Err e)) r = r
+shown_in (ran_on (Ok (runs.Uncaught t))) r = r
+shown_in (ran_on (Ok (runs.Shown seen t))) r = number_of seen r
+shown_in (ran_on (Ok (runs.Done t))) r = r
+shown_in (ran_on (Ok (runs.Full t))) r = r
+shown_in (ran_on (Ok (runs.Stopped t))) r = r
+shown_in (ran_on (Err e)) r = r
 shown_in (reported a l) r = r
 shown_in (surveyed a l) r = r
 shown_in (name_given l n i) r = r
@@ -62,7 +62,7 @@ quiet_given p zero C D e = ap (λ (X : Config). X.given) (sym e)
 quiet_given p (suc n) C D (E, c, h) = quiet_given p n E D h ∙ taken_counts c.takes
 
 module _ (p : Program) (C : Config) (l : List ℕ) (k : ℕ) where
-  ran_shows : (budget n : ℕ) (a : RanOn) (D : Config) → Ended p budget n C a D → InOrder D.given l k → InOrder C.given (shown_in (ran_on a) l) k
+  ran_shows : (budget n : ℕ) (a : RanOn) (D : Config) → Ended p budget n C a D → InOrder D.given l k → InOrder C.given (shown_in (ran_on (Ok a)) l) k
   ran_shows budget zero (runs.Shown seen t) D (b, h, g) o = absurd h
   ran_shows budget (suc n) (runs.Shown seen t) D (b, (E, q, c, x), g) o =
       subst (λ g. InOrder g (number_of seen l) k) (quiet_given p n C E q) (one_step E.given D.given k seen l (taken_counts c.takes) o)
@@ -70,7 +70,6 @@ module _ (p : Program) (C : Config) (l : List ℕ) (k : ℕ) where
   ran_shows budget n (runs.Done t) D h o = subst (λ g. InOrder g l k) (quiet_given p n C D h.1) o
   ran_shows budget n (runs.Full t) D h o = subst (λ g. InOrder g l k) (quiet_given p n C D h.1) o
   ran_shows budget n (runs.Stopped t) D h o = subst (λ g. InOrder g l k) (quiet_given p n C D h.1) o
-  ran_shows budget n (runs.Refused m i) D h o = absurd h
 
   reply_shows : {c : Call} {r : Reply} → Replied p C c r → has_begun r.answer ≡ false → InOrder r.config.given l k → InOrder C.given (shown_in r.answer l) k
   reply_shows (refuses {c} n i) e o =

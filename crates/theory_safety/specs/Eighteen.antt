@@ -1,5 +1,5 @@
 -- Refusal 18 is "never given by start, nor, under the same text, to what start, a step or run-on left": they leave what its test accepts.
-use Rattle.std.specs.Prelude.{ℕ, ◌≡◌, List, ◌∷◌, true, false}
+use Rattle.std.specs.Prelude.{ℕ, ◌≡◌, List, ◌∷◌, true, false, Ok}
 use Rattle.std.proofs.Math.Option.{some}
 use Rattle.notation.specs.Tree.{Declaration}
 use Rattle.calculus.specs.Program.{Signature, Program, program_of}
@@ -9,7 +9,6 @@ use Rattle.calculus.specs.Runs.{start_config, exec_of, run_on}
 use Rattle.calculus.specs.Named.{In}
 use Rattle.calculus.specs.Machine.{Call, call_start, started, respond, idle, Exchange, history}
 use Rattle.calculus.specs.declared.answers.Seen.{Seen}
-use Rattle.calculus.specs.declared.answers.Started.TheVariants as Starts
 use Rattle.theory_reductions.specs.Halting.{Takes}
 use Rattle.theory_decision.specs.Decide.{well_formed?, well_formed?_iff}
 use Rattle.theory_preservation.specs.Preserved.{takes_preserves}
@@ -31,6 +30,6 @@ module _ (text : List ℕ) (ds : List Declaration) (ok : checked text ≡ accept
   run_on_never_18 C budget w = (well_formed?_iff p _).1 (run_keeps text ds ok C ((well_formed?_iff p C).0 w) budget)
 
   -- whatever calls follow a start that is carried out, the next one meets what the test accepts
-  pub calls_never_18 : (scratch run line : ℕ) (calls : List Call) → (respond text idle (call_start scratch run line)).answer ≡ started Starts.Begun
+  pub calls_never_18 : (scratch run line : ℕ) (calls : List Call) → (respond text idle (call_start scratch run line)).answer ≡ started (Ok tt)
       → (m : Exchange) → In m (history text idle (call_start scratch run line ∷ calls)) → well_formed? p m.after.config ≡ true
   calls_never_18 scratch run line calls e m k = (well_formed?_iff p _).1 (plain_demand3.at_each_call text ds scratch run line calls ok e m k).safe.well_formed

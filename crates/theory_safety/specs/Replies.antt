@@ -1,13 +1,14 @@
 -- The replies to a call, by the refusal list: which calls are refused, and that a refusal changes nothing.
 use Prim.Native.Nat.{ℕ, ◌<◌, ◌≤◌}
 use Rattle.std.proofs.Common.{arith, sym, ◌∙◌, inl, inr, true≢false, le-leb}
-use Rattle.std.specs.Prelude.{◌≡◌, ◌↔◌, List, Bool, cond, length, leb}
+use Rattle.std.specs.Prelude.{◌≡◌, ◌↔◌, List, Bool, cond, length, leb, Ok}
 use Rattle.std.proofs.Math.Path.{refl, ap}
 use Rattle.std.proofs.Math.Option.{Option, some, none, none-ne-some}
 use Rattle.std.proofs.Math.Bool.{true, false}
 use Rattle.std.proofs.lemmas.Bool.{false≢true, lt-leb}
 use Rattle.std.proofs.Math.ListN.{get_elem?}
 use Rattle.notation.specs.Limits.{scratch_words, run_words}
+use Rattle.notation.specs.Refusals as answers
 use Rattle.notation.specs.Tree.{Located, Declaration}
 use Rattle.calculus.specs.Program.{Signature, Program, program_of}
 use Rattle.calculus.specs.Accepted.{accepted, faulty, checked}
@@ -18,17 +19,12 @@ use Rattle.calculus.specs.Reduces.{Lacks, Applies}
 use Rattle.calculus.specs.Machine.{Call, call_start, call_step, call_run_on, call_report, call_places, call_exec_name, started, stepped, ran_on, reported, surveyed, name_given, Reply, reply, text_checked, on_program, on_run, on_line, on_going, on_place, on_step, refusal, respond}
 use Rattle.calculus.specs.Demands.{is_refused, lengths, RefusedWhere, AnsweredHalted}
 use Rattle.calculus.specs.declared.answers.Seen.{Seen}
-use Rattle.calculus.specs.declared.answers.RanOn.{RanOn}
-use Rattle.calculus.specs.declared.answers.Started.TheVariants as Starts
 use Rattle.calculus.specs.declared.answers.Stepped.TheVariants as Steps
-use Rattle.calculus.specs.declared.answers.RanOn.TheVariants as Runs
-use Rattle.calculus.specs.declared.answers.Reported.TheVariants as Reports
-use Rattle.calculus.specs.declared.answers.Surveyed.TheVariants as Surveys
 use Rattle.theory_derivations.specs.Booleans.{leb_iff}
 use Rattle.theory_ends.specs.Lists.{found_in, none_past, found_below}
 use Rattle.theory_reductions.specs.CarriedOut.{carried_out_lem, halts_out, lacks_out}
 use Rattle.theory_reductions.specs.StepIff.{applies_place, reduces_or_lacks, halts_or_lacks}
-use Rattle.theory_progress.specs.RunOn.{Ended, run_on_ends, halted_runs}
+use Rattle.theory_progress.specs.RunOn.{halted_runs}
 use Rattle.theory_preservation.specs.Accepted.{exec_defined}
 
 -- a test that passes where the claim holds, and one that fails where it does not
@@ -45,13 +41,13 @@ not_past l i e h = let b = found_below l i e in omega arith
 pub data Replied (p : Program) (C : Config) : Call → Reply → Type 0 where
   refuses : {c : Call} (n i : ℕ) → Replied p C c (refusal C c n i)
   begins : {scratch run line : ℕ} (g : Signature) → exec_of p line ≡ some g
-      → Replied p C (call_start scratch run line) (reply (started Starts.Begun) (start_config g))
+      → Replied p C (call_start scratch run line) (reply (started (Ok tt)) (start_config g))
   carries_out : {scratch run place : ℕ} (seen : Seen) (D : Config) → C.halted ≡ false → step p C place ≡ carried seen D
-      → Replied p C (call_step scratch run place) (reply (stepped (Steps.Carried seen)) D)
-  halts_run : {scratch run place : ℕ} → C.halted ≡ false → step p C place ≡ uncaught → Replied p C (call_step scratch run place) (reply (stepped Steps.Uncaught) (halt C))
-  runs : {scratch run budget : ℕ} → Replied p C (call_run_on scratch run budget) (reply (ran_on (run_on p C budget).answer) (run_on p C budget).config)
-  reports : {scratch run : ℕ} → Replied p C (call_report scratch run) (reply (reported (Reports.Open (length (report C))) (report C)) C)
-  surveys_places : {scratch run : ℕ} → Replied p C (call_places scratch run) (reply (surveyed (Surveys.Processes (length (places p C))) (places p C)) C)
+      → Replied p C (call_step scratch run place) (reply (stepped (Ok (Steps.Carried seen))) D)
+  halts_run : {scratch run place : ℕ} → C.halted ≡ false → step p C place ≡ uncaught → Replied p C (call_step scratch run place) (reply (stepped (Ok Steps.Uncaught)) (halt C))
+  runs : {scratch run budget : ℕ} → Replied p C (call_run_on scratch run budget) (reply (ran_on (Ok (run_on p C budget).answer)) (run_on p C budget).config)
+  reports : {scratch run : ℕ} → Replied p C (call_report scratch run) (reply (reported (Ok (length (report C))) (report C)) C)
+  surveys_places : {scratch run : ℕ} → Replied p C (call_places scratch run) (reply (surveyed (Ok (length (places p C))) (places p C)) C)
   names : {scratch line : ℕ} (n : Located) → Replied p C (call_exec_name scratch line) (reply (name_given n.name 0 0) C)
 
 module _ {p : Program} {C : Config} {c : Call} where
@@ -90,23 +86,15 @@ refusal_config C (call_report scratch run) n i = refl
 refusal_config C (call_places scratch run) n i = refl
 refusal_config C (call_exec_name scratch line) n i = refl
 
-pub run_never_refused : (p : Program) (C : Config) (budget : ℕ) → is_refused (ran_on (run_on p C budget).answer) ≡ false
-run_never_refused p C budget = go _ _ (run_on p C budget).answer (run_on_ends p C budget)
-  where
-    go : (n : ℕ) (D : Config) (a : RanOn) → Ended p budget n C a D → is_refused (ran_on a) ≡ false
-    go n D (Runs.Uncaught t) h = refl
-    go n D (Runs.Shown seen t) h = refl
-    go n D (Runs.Done t) h = refl
-    go n D (Runs.Full t) h = refl
-    go n D (Runs.Stopped t) h = refl
-    go n D (Runs.Refused k i) h = absurd h
+pub run_never_refused : (p : Program) (C : Config) (budget : ℕ) → is_refused (ran_on (Ok (run_on p C budget).answer)) ≡ false
+run_never_refused p C budget = refl
 
 pub unchanged_by : {p : Program} {C : Config} {c : Call} {r : Reply} → Replied p C c r → is_refused r.answer ≡ true → r.config ≡ C
 unchanged_by {C = C} (refuses {c} n i) e = refusal_config C c n i
 unchanged_by (begins g h) e = absurd (false≢true e)
 unchanged_by (carries_out seen D g h) e = absurd (false≢true e)
 unchanged_by (halts_run g h) e = absurd (false≢true e)
-unchanged_by {p} {C} (runs {budget = budget}) e = absurd (false≢true (sym (run_never_refused p C budget) ∙ e))
+unchanged_by runs e = absurd (false≢true e)
 unchanged_by reports e = refl
 unchanged_by surveys_places e = refl
 unchanged_by (names n) e = refl
@@ -153,7 +141,7 @@ module _ (text : List ℕ) (ds : List Declaration) (ok : checked text ≡ accept
       rw (enough_text scratch h.scratch_enough, (leb_iff run_words run).1 h.run_enough) (go (get_elem? P.execs line) refl)
     where
       go : (o : Option Located) → get_elem? P.execs line ≡ o
-          → (is_refused (on_line (line_signature P o) (refusal C (call_start scratch run line)) (λ g. reply (started Starts.Begun) (start_config g))).answer ≡ true) ↔ (length P.execs ≤ line)
+          → (is_refused (on_line (line_signature P o) (refusal C (call_start scratch run line)) (λ g. reply (started (Ok tt)) (start_config g))).answer ≡ true) ↔ (length P.execs ≤ line)
       go none e = holds_iff refl (none_past P.execs line e)
       go (some n) e = rw (exec_defined text ds ok n (found_in P.execs line e)).1 (fails_iff refl (not_past P.execs line e))
   refused_where C (call_step scratch run i) h = λ o.
@@ -163,7 +151,7 @@ module _ (text : List ℕ) (ds : List Declaration) (ok : checked text ≡ accept
       refuse = refusal C (call_step scratch run i)
 
       answer : Outcome → Reply
-      answer r = on_step r refuse (λ seen D. reply (stepped (Steps.Carried seen)) D) (reply (stepped Steps.Uncaught) (halt C))
+      answer r = on_step r refuse (λ seen D. reply (stepped (Ok (Steps.Carried seen))) D) (reply (stepped (Ok Steps.Uncaught)) (halt C))
 
       taken : Applies P C i → (is_refused (answer (step P C i)).answer ≡ true) ↔ Lacks C i
       taken (inl (s, D, r)) = rw (carried_out_lem P r) (fails_iff refl (reduces_or_lacks P C i r))
@@ -198,10 +186,10 @@ module _ (text : List ℕ) (ds : List Declaration) (ok : checked text ≡ accept
   halted_answers C (call_step scratch run i) h z =
       rw (enough_text scratch h.scratch_enough, (leb_iff run_words run).1 h.run_enough) (at_halt _)
     where
-      at_halt : (r : Reply) → on_going C.halted (refusal C (call_step scratch run i)) r ≡ reply (stepped (Steps.Refused 22 0)) C
+      at_halt : (r : Reply) → on_going C.halted (refusal C (call_step scratch run i)) r ≡ reply (stepped (answers.refuses 22 0)) C
       at_halt r = ap (λ b. on_going b (refusal C (call_step scratch run i)) r) z
   halted_answers C (call_run_on scratch run budget) h z =
-      rw (enough_text scratch h.scratch_enough, (leb_iff run_words run).1 h.run_enough) (ap (λ (r : Ran). reply (ran_on r.answer) r.config) (halted_runs P C budget z))
+      rw (enough_text scratch h.scratch_enough, (leb_iff run_words run).1 h.run_enough) (ap (λ (r : Ran). reply (ran_on (Ok r.answer)) r.config) (halted_runs P C budget z))
   halted_answers C (call_report scratch run) h z = tt
   halted_answers C (call_places scratch run) h z = tt
   halted_answers C (call_exec_name scratch line) h z = tt

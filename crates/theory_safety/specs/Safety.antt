@@ -1,5 +1,5 @@
 -- Demand 3: nothing waits forever for a partner that can't come, at each call of every list of calls.
-use Rattle.std.specs.Prelude.{ℕ, ◌≡◌, refl, List, [], ◌∷◌, Bool, true, false}
+use Rattle.std.specs.Prelude.{ℕ, ◌≡◌, refl, List, [], ◌∷◌, Bool, true, false, Ok, Err}
 use Rattle.std.proofs.Common.{sym, ◌∙◌, ap, subst}
 use mathlib.Core.List.Memᴰ
 use Rattle.std.proofs.lemmas.Bool.{false≢true}
@@ -12,7 +12,6 @@ use Rattle.calculus.specs.Named.{In}
 use Rattle.calculus.specs.WellFormed.{WellFormed}
 use Rattle.calculus.specs.Machine.{Call, call_start, call_step, call_run_on, call_report, call_places, call_exec_name, Answer, started, stepped, ran_on, reported, surveyed, name_given, Reply, refusal, respond, idle, Exchange, history}
 use Rattle.calculus.specs.Demands.{Safe, SafeBetween, SafeExchange, PlainDemand3}
-use Rattle.calculus.specs.declared.answers.Started.TheVariants as Starts
 use Rattle.theory_progress.specs.Joints.{joints_fewer}
 use Rattle.theory_progress.specs.Progress.{some_open_lem}
 use Rattle.theory_preservation.specs.Preserved.{takes_preserves}
@@ -24,8 +23,8 @@ pub safe : {p : Program} {C : Config} → WellFormed p C → Safe p C
 safe {p} {C} v = record { well_formed = v; fewer = joints_fewer p C v; some_open = some_open_lem p C v }
 
 abbrev pub has_begun : Answer → Bool
-has_begun (started Starts.Begun) = true
-has_begun (started (Starts.Refused n i)) = false
+has_begun (started (Ok x)) = true
+has_begun (started (Err e)) = false
 has_begun (stepped a) = false
 has_begun (ran_on a) = false
 has_begun (reported a l) = false
@@ -118,7 +117,7 @@ module _ (text : List ℕ) (ds : List Declaration) (ok : checked text ≡ accept
   history_safe C v (c ∷ cs) m (Memᴰ.tail k) = history_safe (respond text C c).config (reply_keeps v (replied text ds ok C c)) cs m k
 
   -- a list of calls that begins with a start carried out
-  run_safe : (C : Config) (scratch run line : ℕ) (calls : List Call) → (respond text C (call_start scratch run line)).answer ≡ started Starts.Begun
+  run_safe : (C : Config) (scratch run line : ℕ) (calls : List Call) → (respond text C (call_start scratch run line)).answer ≡ started (Ok tt)
       → (m : Exchange) → In m (history text C (call_start scratch run line ∷ calls)) → SafeExchange p m
   run_safe C scratch run line calls e m k = go k
     where

@@ -1,5 +1,5 @@
 -- A script without warnings meets no label that is left out: after each call, whatever is called in whatever order, each label that is sent has a branch where it comes.
-use Rattle.std.specs.Prelude.{ℕ, ◌≡◌, refl, ◌≢◌}
+use Rattle.std.specs.Prelude.{ℕ, ◌≡◌, refl, ◌≢◌, Ok}
 use Rattle.std.proofs.Common.{sym, ap, subst}
 use mathlib.Core.List.Memᴰ
 use mathlib.Core.List.{List, [], ◌∷◌, map, cons-ne-nil}
@@ -17,7 +17,6 @@ use Rattle.calculus.specs.WellFormed.{WellFormed}
 use Rattle.calculus.specs.Reduces.{Runs, Holds, Answers}
 use Rattle.calculus.specs.Machine.{Call, call_start, started, respond, idle, Exchange, history}
 use Rattle.calculus.specs.declared.answers.Seen.{Seen}
-use Rattle.calculus.specs.declared.answers.Started.TheVariants as Starts
 use Rattle.theory_reductions.specs.StepIff.{step_iff}
 use Rattle.theory_reductions.specs.Halting.{Takes, carries_out, halts}
 use Rattle.theory_ends.specs.Lists.{nil_left, nil_right}
@@ -88,7 +87,7 @@ module _ (text : List ℕ) (ds : List Declaration) (ok : checked text ≡ accept
   history_whole C w (c ∷ cs) m (Memᴰ.tail k) = history_whole (respond text C c).config (reply_kept Whole whole_kept w (replied text ds ok C c)) cs m k
 
   -- after each call of every list that begins with a start carried out
-  pub spotless_takes_all : (scratch run line : ℕ) (calls : List Call) → (respond text idle (call_start scratch run line)).answer ≡ started Starts.Begun
+  pub spotless_takes_all : (scratch run line : ℕ) (calls : List Call) → (respond text idle (call_start scratch run line)).answer ≡ started (Ok tt)
       → (m : Exchange) → In m (history text idle (call_start scratch run line ∷ calls)) → TakesAll m.after.config
   spotless_takes_all scratch run line calls e m k = takes_all_there (go k)
     where

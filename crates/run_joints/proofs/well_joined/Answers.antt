@@ -1,27 +1,43 @@
+use mathlib.Core.Path.{sym, ◌∙◌}
 use Rattle.run_joints.specs.WellJoined.{lead_part, linked_part, once_part, free_part, rise_part, refuses, accepts}
 use Rattle.run_joints.proofs.well_joined.Goals as goal
+use Rattle.run_joints.proofs.well_joined.Goals.{then-links_lead, else-links_lead, then-handlers_linked, else-handlers_linked, then-linked_once, else-linked_once, then-forest, else-forest}
 
-pub returns-then-not-links_lead : goal.returns-then-not-links_lead
-returns-then-not-links_lead c = refuses lead_part c.links_lead.ensures c.if-not-links_lead.true
+pub returns-then-numbers_rise : goal.returns-then-numbers_rise
+returns-then-numbers_rise c =
+    elim c.if-forest.branch [
+      | then-forest f ↦
+          elim c.if-linked_once.branch [
+            | then-linked_once o ↦
+                elim c.if-handlers_linked.branch [
+                  | then-handlers_linked h ↦
+                      elim c.if-links_lead.branch [
+                        | then-links_lead l ↦
+                            accepts c.links_lead.ensures l.if-links_lead.true l.handlers_linked.ensures (cc) h.linked_once.ensures (cc) o.forest.ensures (cc) f.numbers_rise.ensures (cc) c.numbers_given.ensures
+                        | else-links_lead l ↦ cc
+                      ]
+                  | else-handlers_linked h ↦ cc
+                ]
+            | else-linked_once o ↦ cc
+          ]
+      | else-forest f ↦ cc
+    ]
 
-pub returns-then-not-handlers_linked : goal.returns-then-not-handlers_linked
-returns-then-not-handlers_linked c = refuses linked_part c.handlers_linked.ensures c.if-not-handlers_linked.true
-
-pub returns-then-not-linked_once : goal.returns-then-not-linked_once
-returns-then-not-linked_once c = refuses once_part c.linked_once.ensures c.if-not-linked_once.true
-
-pub returns-then-not-forest : goal.returns-then-not-forest
-returns-then-not-forest c = refuses free_part c.forest.ensures c.if-not-forest.true
-
-pub returns-then-not-numbers_rise : goal.returns-then-not-numbers_rise
-returns-then-not-numbers_rise c = refuses rise_part c.numbers_rise.ensures c.if-not-numbers_rise.true
-
-pub returns : goal.returns
-returns c =
-    accepts
-    c.links_lead.ensures c.if-not-links_lead.false
-    c.handlers_linked.ensures c.if-not-handlers_linked.false
-    c.linked_once.ensures c.if-not-linked_once.false
-    c.forest.ensures c.if-not-forest.false
-    c.numbers_rise.ensures c.if-not-numbers_rise.false
-    c.numbers_given.ensures
+pub returns-else-numbers_rise : goal.returns-else-numbers_rise
+returns-else-numbers_rise c =
+    rw c.if-numbers_rise.false (elim c.if-forest.branch [
+      | then-forest f ↦ refuses rise_part f.numbers_rise.ensures (sym f.value-is ∙ c.if-numbers_rise.false)
+      | else-forest f ↦
+          elim c.if-linked_once.branch [
+            | then-linked_once o ↦ refuses free_part o.forest.ensures (sym o.value-is ∙ f.if-forest.false)
+            | else-linked_once o ↦
+                elim c.if-handlers_linked.branch [
+                  | then-handlers_linked h ↦ refuses once_part h.linked_once.ensures (sym h.value-is ∙ o.if-linked_once.false)
+                  | else-handlers_linked h ↦
+                      elim c.if-links_lead.branch [
+                        | then-links_lead l ↦ refuses linked_part l.handlers_linked.ensures (sym l.value-is ∙ h.if-handlers_linked.false)
+                        | else-links_lead l ↦ refuses lead_part c.links_lead.ensures l.if-links_lead.false
+                      ]
+                ]
+          ]
+    ])

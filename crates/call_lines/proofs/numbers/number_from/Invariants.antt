@@ -1,10 +1,6 @@
-use Prim.Native.Nat.{◌-◌}
-use lib.ListN.{length}
-use Rattle.call_lines.specs.Reading.{Counting}
+use Rattle.std.proofs.Common.{◌≡◌, drop}
+use Rattle.call_lines.specs.CallLine.{number_from}
 use Rattle.call_lines.proofs.numbers.number_from.Given as goal
 
-abbrev pub invariant-loop-i : goal.invariant-loop-i
-invariant-loop-i l = Counting l.digits l.i l.n
-
-abbrev pub decreases-loop-i : goal.decreases-loop-i
-decreases-loop-i l = length l.digits - l.i
+abbrev pub invariant-loop-b : goal.invariant-loop-b
+invariant-loop-b l = number_from 0 l.digits ≡ number_from l.n (drop l.b-index l.digits)

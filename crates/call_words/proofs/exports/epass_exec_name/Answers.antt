@@ -1,6 +1,5 @@
-use mathlib.Core.Path.{◌∙◌}
 use Rattle.interpreter.specs.Entries.{to_name}
-use Rattle.call_words.specs.Exported.{exported_short, exported, name_placed}
+use Rattle.call_words.specs.Exported.{exported_short, exported}
 use Rattle.call_words.proofs.exports.epass_exec_name.Goals as goal
 
 pub returns-then-answer-lt-ANSWER_WORDS : goal.returns-then-answer-lt-ANSWER_WORDS
@@ -11,4 +10,4 @@ returns c =
     let args = c.args in
     let s = args.text.now in
     let called = c.exec_place-place in
-    exported s (to_name args.line) _ c.if-answer-lt-ANSWER_WORDS.false called.ensures.names (c.name_words.ensures ∙ name_placed s _ _ _ _ _ called.ensures.stands) c.tell.ensures
+    exported s (to_name args.line) _ c.if-answer-lt-ANSWER_WORDS.false called.ensures.names (c.name_words.ensures _ called.ensures.stands called.ensures.numbered) c.tell.ensures

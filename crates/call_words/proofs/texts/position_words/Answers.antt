@@ -3,4 +3,4 @@ use Rattle.call_words.proofs.texts.position_words.Goals as goal
 
 pub returns : goal.returns
 unfolding position_words
-returns c = rw (c.few_words.ensures, c.as_word-2.ensures, c.as_word.ensures)
+returns c = rw (c.padded.ensures, c.as_word-2.ensures, c.as_word.ensures)

@@ -1,10 +1,10 @@
 use Rattle.call_words.specs.Texts.{reading_words}
 use Rattle.call_words.proofs.texts.reading_words.Goals as goal
 
-pub returns-in-Read : goal.returns-in-Read
+pub returns-in-Ok : goal.returns-in-Ok
 unfolding reading_words
-returns-in-Read c = rw (c.few_words.ensures, c.in-Read.is)
+returns-in-Ok c = rw (c.padded.ensures, c.in-Ok.is)
 
-pub returns-in-Refused : goal.returns-in-Refused
+pub returns-in-Err : goal.returns-in-Err
 unfolding reading_words
-returns-in-Refused c = rw (c.refused_words.ensures, c.in-Refused.is)
+returns-in-Err c = rw (c.refused_words.ensures, c.in-Err.is)

@@ -3,4 +3,4 @@ use Rattle.call_words.proofs.texts.token_words.Goals as goal
 
 pub returns : goal.returns
 unfolding token_words
-returns c = rw (c.four_words.ensures, c.as_word-3.ensures, c.as_word-2.ensures, c.as_word.ensures)
+returns c = rw (c.padded.ensures, c.as_word-3.ensures, c.as_word-2.ensures, c.as_word.ensures)

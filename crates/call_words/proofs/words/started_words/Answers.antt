@@ -2,10 +2,10 @@ use Rattle.calculus.specs.Answers.{started_as}
 use Rattle.call_words.specs.Words.{words_of}
 use Rattle.call_words.proofs.words.started_words.Goals as goal
 
-pub returns-in-Begun : goal.returns-in-Begun
+pub returns-in-Ok : goal.returns-in-Ok
 unfolding words_of started_as
-returns-in-Begun c = λ s i. rw (c.few_words.ensures, c.in-Begun.is)
+returns-in-Ok c = λ s i. rw (c.padded.ensures, c.in-Ok.is)
 
-pub returns-in-Refused : goal.returns-in-Refused
+pub returns-in-Err : goal.returns-in-Err
 unfolding words_of started_as
-returns-in-Refused c = λ s i. rw (c.refused_words.ensures, c.in-Refused.is)
+returns-in-Err c = λ s i. rw (c.refused_words.ensures, c.in-Err.is)

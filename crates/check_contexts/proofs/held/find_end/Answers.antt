@@ -1,13 +1,12 @@
-use mathlib.Core.Path.{sym, ◌∙◌}
+use Rattle.std.proofs.Common.{rules, sym, ◌∙◌}
 use Rattle.check_contexts.specs.Found.{position_below, sees_there, sees_nothing}
-use borrow.Author.Rules.{rules}
 use Rattle.check_contexts.proofs.held.find_end.Goals as goal
 
-pub returns-in_default : goal.returns-in_default
-returns-in_default c = sees_nothing _ _ _ (sym c.position_named-f.ensures ∙ c.in_default.is)
+pub returns-in_err-k : goal.returns-in_err-k
+returns-in_err-k c = rw c.from_residual.ensures (sees_nothing _ _ _ (sym c.position_named.ensures ∙ c.in_err-k.was))
 
-pub end_at-e-requires : goal.end_at-e-requires
-end_at-e-requires c = (search rules, position_below c.args.text.now c.args.h c.args.at _ (sym c.position_named-f.ensures ∙ c.in-At.is))
+pub end_at-requires : goal.end_at-requires
+end_at-requires c = (search rules, position_below c.args.text.now c.args.h c.args.at _ (sym c.position_named.ensures ∙ c.in_ok-k.was))
 
 pub returns : goal.returns
-returns c = sees_there _ _ _ _ (sym c.position_named-f.ensures ∙ c.in-At.is) _ c.end_at-e.ensures.k_value c.end_at-e.ensures.side_lt_side_radix.0
+returns c = sees_there _ _ _ _ (sym c.position_named.ensures ∙ c.in_ok-k.was) _ c.end_at.ensures.k_value c.end_at.ensures.side_lt_side_radix.0

@@ -1,8 +1,8 @@
 use native.Mathlib.Omega.{arith}
+use Rattle.std.specs.Prelude.{None}
 use mathlib.Core.Path.{refl, sym, ◌∙◌, ap}
 use Rattle.notation.specs.Bytes.{same}
 use Rattle.notation.specs.Token.{name_at}
-use Rattle.notation.specs.declared.reading.Found.TheVariants.{Nothing}
 use Rattle.run_words.specs.ListLaws.{scan_end}
 use Rattle.run_words.specs.Operations.{first_step}
 use Rattle.run_words.specs.Values.{held_in, held_length}
@@ -34,4 +34,4 @@ loop-k-preserved c =
 pub returns : goal.returns
 returns c =
     let a = c.args in
-    sym (c.loop-k.invariant ∙ scan_end (first_step (is_named a.text.now a.at)) Nothing (held_in (held_by a.n a.ends.now)) c.loop-k.k (omega (arith, c.loop-k-test.false, held_length (held_by a.n a.ends.now))))
+    sym (c.loop-k.invariant ∙ scan_end (first_step (is_named a.text.now a.at)) None (held_in (held_by a.n a.ends.now)) c.loop-k.k (omega (arith, held_length (held_by a.n a.ends.now))))

@@ -1,4 +1,3 @@
-use Prim.Native.Nat.{◌-◌}
 use mathlib.Core.Path.{◌≡◌}
 use Rattle.run_words.specs.Operations.{first}
 use Rattle.run_words.specs.Values.{held_in}
@@ -8,6 +7,3 @@ use Rattle.check_contexts.proofs.held.position_in.Given as goal
 
 abbrev pub invariant-loop-k : goal.invariant-loop-k
 invariant-loop-k l = first (is_named l.text l.at) (held_in (held_by l.n l.ends)) ≡ first_from (is_named l.text l.at) (held_in (held_by l.n l.ends)) l.k
-
-abbrev pub decreases-loop-k : goal.decreases-loop-k
-decreases-loop-k l = l.n - l.k

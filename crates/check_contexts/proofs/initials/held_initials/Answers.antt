@@ -17,9 +17,9 @@ pub loop-k-preserved : goal.loop-k-preserved
 loop-k-preserved c =
     let entry = c.args in
     let byte = c.byte_at-b.ensures ∙ ap (λ i. get_or entry.text.now i 0) c.name_at.ensures in
-    let few : c.loop-k.k < held_limit = omega (arith, c.loop-k-test.true, c.requires) in
+    let few : c.loop-k.k < held_limit = omega arith in
     let next = initials_next c.loop-k.invariant.1 byte (sym c.is_name_byte.ensures ∙ c.if-not-is_name_byte.false) c.loop-k.invariant.0 few _ _ c.initial.ensures.value refl in
     (length-set c.loop-k.r _ true ∙ c.loop-k.invariant.0, next)
 
 pub returns : goal.returns
-returns c = initials_done c.loop-k.invariant.1 _ c.loop-k-test.false
+returns c = initials_done c.loop-k.invariant.1 _ (omega arith)

@@ -1,4 +1,3 @@
-use Prim.Native.Nat.{◌-◌}
 use mathlib.Core.Path.{◌≡◌}
 use lib.ListN.{length}
 use Rattle.check_contexts.specs.Initials.{initial_radix, Initials}
@@ -6,6 +5,3 @@ use Rattle.check_contexts.proofs.initials.held_initials.Given as goal
 
 abbrev pub invariant-loop-k : goal.invariant-loop-k
 invariant-loop-k l = (length l.r ≡ initial_radix) × Initials l.text l.ends l.k l.r
-
-abbrev pub decreases-loop-k : goal.decreases-loop-k
-decreases-loop-k l = l.n - l.k

@@ -1,5 +1,4 @@
 -- The walk over a process, what it has in brackets and its branches, for the names that are held.
-use Prim.Native.Nat.{◌-◌}
 use Rattle.check_contexts.specs.Mentioned.{Branched}
 use Rattle.notation.specs.Sizes.{process_terms}
 use Rattle.read_tables.specs.Decode.{process_in}
@@ -21,9 +20,6 @@ decreases-mark_process l = 3 * process_terms (process_in l.text.now l.scratch.no
 
 abbrev pub invariant-mark_branches-loop-k : goal.invariant-mark_branches-loop-k
 invariant-mark_branches-loop-k l = Branched l.text l.scratch l.ends l.n l.e l.count l.sought l.initial.r l.k l.r
-
-abbrev pub decreases-mark_branches-loop-k : goal.decreases-mark_branches-loop-k
-decreases-mark_branches-loop-k l = l.count - l.k
 
 abbrev pub invariant-mark_process-loop-at : goal.invariant-mark_process-loop-at
 invariant-mark_process-loop-at l = Walked l.text l.scratch l.ends l.n l.p l.initial.left l.initial.r l.at l.left l.r

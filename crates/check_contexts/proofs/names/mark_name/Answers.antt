@@ -1,23 +1,5 @@
-use mathlib.Core.Path.{refl, sym, ◌∙◌}
-use native.Mathlib.Omega.{arith}
-use Rattle.check_contexts.specs.Initials.{marked_excluded}
-use Rattle.check_contexts.specs.Marks.{upto_none, mark_next, marked_all}
+use Rattle.check_contexts.specs.Marks.{marks_name}
 use Rattle.check_contexts.proofs.names.mark_name.Goals as goal
 
-pub returns-then-not-may_be_held : goal.returns-then-not-may_be_held
-returns-then-not-may_be_held c = marked_excluded c.requires _ (sym c.may_be_held.ensures ∙ c.if-not-may_be_held.true)
-
-pub loop-k-init : goal.loop-k-init
-loop-k-init c = (omega arith, record { upto = upto_none })
-
-pub meets-met-requires : goal.meets-met-requires
-meets-met-requires c = (omega (arith, c.loop-k-test.true, c.requires.few), c.name_length-bytes.ensures)
-
-pub mark_if-r-requires : goal.mark_if-r-requires
-mark_if-r-requires c = omega (arith, c.loop-k-test.true, c.requires.few)
-
-pub loop-k-preserved : goal.loop-k-preserved
-loop-k-preserved c = (omega (arith, c.loop-k-test.true), mark_next _ refl c.meets-met.ensures c.loop-k.invariant.1 c.mark_if-r.ensures)
-
 pub returns : goal.returns
-returns c = marked_all c.loop-k.invariant.1 c.loop-k-test.false
+returns c = marks_name c.put_mark.ensures

@@ -1,7 +1,6 @@
-use mathlib.Core.Path.{sym, ◌∙◌}
-use mathlib.Core.Bool.{◌&&◌}
+use Rattle.std.proofs.Common.{◌&&◌, sym, ◌∙◌}
 use Rattle.notation.specs.Token.{name_at}
-use Rattle.check_contexts.specs.Marks.{held_name, is_name, same_swap}
+use Rattle.check_contexts.specs.Marks.{is_name, same_swap}
 use Rattle.check_contexts.proofs.names.meets.Goals as goal
 
 pub returns-then-is_marked : goal.returns-then-is_marked
@@ -10,10 +9,3 @@ returns-then-is_marked c =
     let text = a.text.now in
     let so = sym c.is_marked.ensures ∙ c.if-is_marked.true in
     c.has_name.ensures ∙ same_swap _ _ ∙ λ j. sym so j && is_name text a.at (name_at text (c.name_at.ensures j))
-
-pub returns : goal.returns
-returns c =
-    let a = c.args in
-    let text = a.text.now in
-    let not = sym c.is_marked.ensures ∙ c.if-is_marked.false in
-    λ j. sym not j && is_name text a.at (held_name text a.ends.now a.k)

@@ -1,4 +1,3 @@
-use Prim.Native.Nat.{◌-◌}
 use Rattle.read_tables.specs.Decode.{tally_in}
 use Rattle.read_tables.specs.Program.{program_in, exec_in}
 use Rattle.check_declarations.specs.Lowest.{Walking, least}
@@ -7,6 +6,3 @@ use Rattle.check_declarations.proofs.execs.wrong_execs.Given as goal
 
 abbrev pub invariant-loop-i : goal.invariant-loop-i
 invariant-loop-i l = Walking (breaking_at (program_in l.text l.scratch) (exec_in l.text l.scratch)) least (tally_in l.scratch).execs l.i l.l
-
-abbrev pub decreases-loop-i : goal.decreases-loop-i
-decreases-loop-i l = l.n - l.i

@@ -1,5 +1,4 @@
 -- The walk over a type: along its right parts, and over the alternatives of a choice.
-use Prim.Native.Nat.{◌-◌}
 use Rattle.check_declarations.specs.Faults.{alternative_faults}
 use Rattle.check_declarations.specs.Lowest.{Walking}
 use Rattle.notation.specs.Sizes.{type_terms}
@@ -18,9 +17,6 @@ decreases-type_faults l = 2 * type_terms (type_in l.text.now l.scratch.now l.i)
 
 abbrev pub invariant-choice_faults-loop-k : goal.invariant-choice_faults-loop-k
 invariant-choice_faults-loop-k l = Walking (alternative_faults l.text l.scratch l.pass l.e) l.initial.l l.count l.k l.l
-
-abbrev pub decreases-choice_faults-loop-k : goal.decreases-choice_faults-loop-k
-decreases-choice_faults-loop-k l = l.count - l.k
 
 abbrev pub invariant-type_faults-loop-at : goal.invariant-type_faults-loop-at
 invariant-type_faults-loop-at l = Typewise l.text l.scratch l.pass l.i l.initial.l l.at l.n l.l

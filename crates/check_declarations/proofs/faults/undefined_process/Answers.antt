@@ -5,4 +5,4 @@ pub returns-in_default : goal.returns-in_default
 returns-in_default c = name_undefined _ _ c.find_process-f.ensures c.in_default.is c.lowered.ensures
 
 pub returns : goal.returns
-returns c = name_defined _ _ c.find_process-f.ensures c.in-At.is
+returns c = name_defined _ _ c.find_process-f.ensures c.in-Some.is

@@ -1,10 +1,6 @@
-use Prim.Native.Nat.{◌-◌}
 use Rattle.check_declarations.specs.Lowest.{Walking}
 use Rattle.check_declarations.specs.DeclarationFaults.{entry_faults}
 use Rattle.check_declarations.proofs.passes.entries_faults.Given as goal
 
 abbrev pub invariant-loop-k : goal.invariant-loop-k
 invariant-loop-k l = Walking (entry_faults l.text l.scratch l.pass l.i) l.initial.l l.n l.k l.l
-
-abbrev pub decreases-loop-k : goal.decreases-loop-k
-decreases-loop-k l = l.n - l.k

@@ -1,5 +1,4 @@
 -- The walk over a process, what it has in brackets and its branches.
-use Prim.Native.Nat.{◌-◌}
 use Rattle.check_declarations.specs.Lowest.{Walking}
 use Rattle.check_declarations.specs.ProcessFaults.{branch_faults}
 use Rattle.notation.specs.Sizes.{process_terms}
@@ -22,9 +21,6 @@ decreases-process_faults l = 3 * process_terms (process_in l.text.now l.scratch.
 
 abbrev pub invariant-branches_faults-loop-k : goal.invariant-branches_faults-loop-k
 invariant-branches_faults-loop-k l = Walking (branch_faults l.text l.scratch l.pass l.e) l.initial.l l.count l.k l.l
-
-abbrev pub decreases-branches_faults-loop-k : goal.decreases-branches_faults-loop-k
-decreases-branches_faults-loop-k l = l.count - l.k
 
 abbrev pub invariant-process_faults-loop-at : goal.invariant-process_faults-loop-at
 invariant-process_faults-loop-at l = Following l.text l.scratch l.pass l.p l.initial.l l.at l.l

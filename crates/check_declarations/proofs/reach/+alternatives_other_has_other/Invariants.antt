@@ -1,5 +1,4 @@
 -- The walk over a type for its marks: along its right parts, and over the alternatives of a choice.
-use Prim.Native.Nat.{◌-◌}
 use Rattle.check_declarations.specs.Other.{alternative_other}
 use Rattle.check_declarations.specs.Reach.{marked, Testing}
 use Rattle.notation.specs.Sizes.{type_terms}
@@ -19,9 +18,6 @@ decreases-has_other l = 2 * type_terms (type_in l.text.now l.scratch.now l.i)
 
 abbrev pub invariant-alternatives_other-loop-k : goal.invariant-alternatives_other-loop-k
 invariant-alternatives_other-loop-k l = Testing (alternative_other l.text l.scratch (marked l.text l.scratch l.marks) l.e) l.count l.k
-
-abbrev pub decreases-alternatives_other-loop-k : goal.decreases-alternatives_other-loop-k
-decreases-alternatives_other-loop-k l = l.count - l.k
 
 abbrev pub invariant-has_other-loop-n : goal.invariant-has_other-loop-n
 invariant-has_other-loop-n l = Otherwise l.text l.scratch (marked l.text l.scratch l.marks) l.i l.at l.n

@@ -1,4 +1,3 @@
-use Prim.Native.Nat.{◌-◌}
 use Rattle.notation.specs.Token.{name_at}
 use Rattle.read_tables.specs.Decode.{tally_in}
 use Rattle.check_declarations.specs.Reach.{is_marked, Testing}
@@ -6,6 +5,3 @@ use Rattle.check_declarations.proofs.reach.is_marked.Given as goal
 
 abbrev pub invariant-loop-i : goal.invariant-loop-i
 invariant-loop-i l = Testing (is_marked l.text l.scratch l.marks (name_at l.text l.at)) (tally_in l.scratch).types l.i
-
-abbrev pub decreases-loop-i : goal.decreases-loop-i
-decreases-loop-i l = l.n - l.i

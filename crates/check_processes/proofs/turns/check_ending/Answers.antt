@@ -9,9 +9,9 @@ returns-then-n-le-CALL c = c.check_last.ensures
 
 pub returns-then-n-eq-RAISE : goal.returns-then-n-eq-RAISE
 returns-then-n-eq-RAISE c =
-    let e = c.args in
-    let raises = raise_at e.text.now e.scratch.now e.p e.n c.requires.2 c.if-n-eq-RAISE.true in
-    turned_onward c.goes_on.ensures (sym (raises.1 (context_in e.text.now e.scratch.now e.h))) c.requires.1 raises.0.1 raises.0.0
+    let raises = raise_at _ _ _ c.args.n c.requires.2 c.if-n-eq-RAISE.true in
+    rw c.goes_on.ensures
+    (turned_onward _ _ (sym (raises.1 (context_in c.args.text.now c.args.scratch.now c.args.h))) c.requires.1 raises.0.1 raises.0.0)
 
 pub returns : goal.returns
 returns c = c.check_try.ensures

@@ -7,10 +7,10 @@ use Rattle.check_processes.proofs.turns.check_send.Goals as goal
 
 pub returns-then-n-eq-CANCEL : goal.returns-then-n-eq-CANCEL
 returns-then-n-eq-CANCEL c =
-    let cancels = cancel_at c.args.text.now c.args.scratch.now c.args.p c.args.n c.requires.2 c.if-n-eq-CANCEL.true in
-    turned_after c.after.ensures c.cancel_next-x.ensures (cancels.1 (context_in c.args.text.now c.args.scratch.now c.args.h)) cancels.0
+    let cancels = cancel_at _ _ _ c.args.n c.requires.2 c.if-n-eq-CANCEL.true in
+    rw c.after.ensures (turned_after _ _ _ c.cancel_next-x.ensures (cancels.1 (context_in c.args.text.now c.args.scratch.now c.args.h)) cancels.0)
 
 pub returns : goal.returns
 returns c =
-    let sends = send_at c.args.text.now c.args.scratch.now c.args.p c.args.n c.requires.2 (some_kind c.args.text.now c.args.scratch.now c.args.p c.args.n c.requires.2) (omega (arith, c.requires.3, c.if-n-eq-CANCEL.false)) in
-    turned_after c.after-2.ensures c.send_next-x.ensures (sends.1 (context_in c.args.text.now c.args.scratch.now c.args.h)) sends.0
+    let sends = send_at _ _ _ c.args.n c.requires.2 (some_kind _ _ _ c.args.n c.requires.2) (omega (arith, c.requires.3, c.if-n-eq-CANCEL.false)) in
+    rw c.after-2.ensures (turned_after _ _ _ c.send_next-x.ensures (sends.1 (context_in c.args.text.now c.args.scratch.now c.args.h)) sends.0)

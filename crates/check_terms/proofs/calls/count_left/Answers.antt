@@ -5,4 +5,4 @@ pub drop_list-r-requires : goal.drop_list-r-requires
 drop_list-r-requires c = c.drop_list-l.ensures.many
 
 pub returns : goal.returns
-returns c = counts_left c.args.text.now c.args.a c.args.b c.args.h _ _ c.drop_list-l.ensures c.drop_list-r.ensures
+returns c = counts_left c.drop_list-l.ensures c.drop_list-r.ensures

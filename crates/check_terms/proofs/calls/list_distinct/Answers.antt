@@ -1,26 +1,6 @@
-use mathlib.Core.Path.{refl, sym, ◌∙◌}
-use native.Mathlib.Omega.{arith}
-use Rattle.check_terms.specs.Lists.{distinct_on, distinct_not, distinct_end}
-use Rattle.check_contexts.specs.Walks.{walk_start, forward_name}
+use Rattle.std.proofs.Common.{rules}
+use Rattle.check_terms.specs.Lists.{distinct_by_name, not_among}
 use Rattle.check_terms.proofs.calls.list_distinct.Goals as goal
 
-pub loop-x-init : goal.loop-x-init
-loop-x-init c = walk_start _ _ _ (λ xs. refl)
-
-pub returns-in_default : goal.returns-in_default
-returns-in_default c =
-    distinct_end c.args.text.now c.loop-x.invariant _
-    (sym c.next_argument-a.ensures.value ∙ c.in_default.is)
-
-pub returns-then-in_list : goal.returns-then-in_list
-returns-then-in_list c =
-    distinct_not c.args.text.now c.loop-x.invariant c.in-Name.x c.in-Name.past (sym c.next_argument-a.ensures.value ∙ c.in-Name.is) _
-    c.in_list.ensures c.if-in_list.true
-
-pub loop-x-smaller : goal.loop-x-smaller
-loop-x-smaller c = omega (arith, forward_name _ _ _ _ _ c.next_argument-a.ensures.forward c.in-Name.is)
-
-pub loop-x-preserved : goal.loop-x-preserved
-loop-x-preserved c =
-    distinct_on c.args.text.now c.loop-x.invariant c.in-Name.x c.in-Name.past (sym c.next_argument-a.ensures.value ∙ c.in-Name.is) _
-    c.in_list.ensures c.if-in_list.false
+pub returns : goal.returns
+returns c = distinct_by_name c.every_name.ensures (record { is = λ x past b ys rest p n. search (rules, not_among) })

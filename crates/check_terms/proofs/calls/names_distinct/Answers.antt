@@ -1,15 +1,19 @@
 use Rattle.check_terms.specs.Calls.{not_distinct_first, not_apart, distinct_last}
 use Rattle.check_terms.proofs.calls.names_distinct.Goals as goal
+use Rattle.check_terms.proofs.calls.names_distinct.Goals.{then-list_distinct, else-list_distinct}
 
-pub returns-then-not-list_distinct : goal.returns-then-not-list_distinct
-returns-then-not-list_distinct c = not_distinct_first c.args.text.now c.args.a c.args.b _ c.list_distinct.ensures c.if-not-list_distinct.true
+pub returns-else-lists_apart : goal.returns-else-lists_apart
+returns-else-lists_apart c =
+    rw c.if-lists_apart.false
+    (elim c.if-list_distinct.branch [
+      | then-list_distinct w ↦ not_apart w.if-list_distinct.ensures (rw (← w.value-is, c.if-lists_apart.false) at w.lists_apart.ensures)
+      | else-list_distinct w ↦ not_distinct_first w.if-list_distinct.ensures
+    ])
 
-pub returns-then-not-lists_apart : goal.returns-then-not-lists_apart
-returns-then-not-lists_apart c =
-    not_apart c.args.text.now c.args.a c.args.b _ _ c.list_distinct.ensures c.if-not-list_distinct.false
-    c.lists_apart.ensures c.if-not-lists_apart.true
-
-pub returns : goal.returns
-returns c =
-    distinct_last c.args.text.now c.args.a c.args.b _ _ _ c.list_distinct.ensures c.if-not-list_distinct.false
-    c.lists_apart.ensures c.if-not-lists_apart.false c.list_distinct-2.ensures
+pub returns-then-lists_apart : goal.returns-then-lists_apart
+returns-then-lists_apart c =
+    elim c.if-list_distinct.branch [
+      | then-list_distinct w ↦
+          distinct_last w.if-list_distinct.ensures (rw (← w.value-is, c.if-lists_apart.true) at w.lists_apart.ensures) c.list_distinct-then-lists_apart.ensures
+      | else-list_distinct w ↦ cc
+    ]

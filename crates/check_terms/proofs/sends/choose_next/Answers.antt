@@ -1,67 +1,40 @@
+use mathlib.Core.Path.{subst}
+use native.Mathlib.Omega.{arith}
 use Rattle.check_contexts.specs.Halves.{held_bounded}
 use Rattle.check_contexts.specs.Held.{Retypes}
-use mathlib.Core.Path.{refl, subst}
-use native.Mathlib.Omega.{arith}
 use Rattle.read_tables.specs.Access.{node_there}
-use Rattle.check_terms.specs.Sends.{acts_not, acts_so, end_found_lem, found_type, chooses_absent, chooses_not, chooses_so}
-use Rattle.check_terms.specs.Next.{stops, goes}
+use Rattle.check_terms.specs.Sends.{acts_so, found_type, chooses_absent, chooses_not, chooses_so}
+use Rattle.check_terms.specs.Next.{stops, goes, handed_on}
 use Rattle.check_terms.proofs.sends.choose_next.Goals as goal
 
-pub returns-in_default : goal.returns-in_default
-returns-in_default c =
-    let text = c.args.text.now in
-    let scratch = c.args.scratch.now in
-    let h = c.args.h in
-    stops text scratch 10 h refl (chooses_absent text scratch h c.args.c c.args.l
-    (acts_not text scratch h c.args.c _ c.acting-f.ensures c.in_default.is))
+pub returns-in_err-e : goal.returns-in_err-e
+returns-in_err-e c =
+    let none = c.in_err-e.ensures.ok_part in
+    stops (handed_on _ c.from_residual.ensures.1 none c.in_err-e.ensures.value) (chooses_absent _ c.acting.ensures none)
 
-pub chooses_over-t-requires : goal.chooses_over-t-requires
-chooses_over-t-requires c =
-    let end-found' = end_found_lem c.args.text.now c.args.scratch.now _ c.in-Found.e c.acting-f.ensures.fits c.in-Found.is in
-    (c.requires.0, end-found'.0, end-found'.1)
+pub chooses_over-requires : goal.chooses_over-requires
+chooses_over-requires c = let found = acts_so c.acting.ensures c.in_ok-e.ensures.ok_part in (c.requires.0, found.fits, found.side)
 
-pub returns-in_default-t : goal.returns-in_default-t
-returns-in_default-t c =
-    let text = c.args.text.now in
-    let scratch = c.args.scratch.now in
-    let h = c.args.h in
-    stops text scratch 11 h refl (chooses_not text scratch h c.args.c c.args.l c.in-Found.e
-    (acts_so text scratch h c.args.c _ c.in-Found.e c.acting-f.ensures c.in-Found.is) _ c.chooses_over-t.ensures c.in_default-t.is)
+pub returns-in_err-after : goal.returns-in_err-after
+returns-in_err-after c =
+    let none = c.in_err-after.ensures.ok_part in
+    stops (handed_on _ c.from_residual-in_err-after.ensures.1 none c.in_err-after.ensures.value)
+    (chooses_not _ (acts_so c.acting.ensures c.in_ok-e.ensures.ok_part) c.chooses_over.ensures none)
 
-pub narrow-node-requires : goal.narrow-node-requires
-narrow-node-requires c =
-    omega (
-      arith,
-      node_there c.args.text.now c.args.scratch.now c.requires.0 _
-          (found_type c.args.text.now c.args.scratch.now _ c.in-At.after c.chooses_over-t.ensures.type c.in-At.is),
-    )
+pub narrow-requires : goal.narrow-requires
+narrow-requires c = omega (arith, node_there _ _ c.requires.0 _ (found_type c.chooses_over.ensures.type c.in_ok-after.ensures.ok_part))
 
-pub retype_end-left-requires-clause-count_le_held_limit : goal.retype_end-left-requires-clause-count_le_held_limit
-retype_end-left-requires-clause-count_le_held_limit c =
-    let text = c.args.text.now in
-    let scratch = c.args.scratch.now in (
-      c.requires.1.many,
-      omega (
-        arith,
-        node_there text scratch c.requires.0 _
-            (found_type text scratch _ c.in-At.after c.chooses_over-t.ensures.type c.in-At.is),
-        c.narrow-node.ensures,
-      ),
-    )
+pub retype_end-requires-clause-count_le_held_limit : goal.retype_end-requires-clause-count_le_held_limit
+retype_end-requires-clause-count_le_held_limit c = (
+  c.requires.1.many,
+  omega (arith, node_there _ _ c.requires.0 _ (found_type c.chooses_over.ensures.type c.in_ok-after.ensures.ok_part), c.narrow.ensures),
+)
 
-pub retype_end-left-requires-clause-all : goal.retype_end-left-requires-clause-all
-retype_end-left-requires-clause-all c =
-    let text = c.args.text.now in
-    let scratch = c.args.scratch.now in held_bounded c.requires.1
+pub retype_end-requires-clause-all : goal.retype_end-requires-clause-all
+retype_end-requires-clause-all c = held_bounded c.requires.1
 
 pub returns : goal.returns
 returns c =
-    let chooses-over = c.chooses_over-t in
-    let text = c.args.text.now in
-    let h = c.args.h in
-    let c-arg = c.args.c in
-    let scratch = c.args.scratch.now in
-    let d = (subst (λ j. Retypes text h c-arg j c.retype_end-left.result) c.narrow-node.ensures c.retype_end-left.ensures) in
-    goes text scratch _ (d.fits scratch (found_type text scratch _ c.in-At.after chooses-over.ensures.type c.in-At.is) c.requires.1)
-    (chooses_so text scratch h c-arg c.args.l c.in-Found.e (acts_so text scratch h c-arg _ c.in-Found.e c.acting-f.ensures c.in-Found.is) _
-    chooses-over.ensures c.in-At.after c.in-At.is _ d)
+    let d = subst (λ j. Retypes c.args.text.now c.args.h c.args.c j c.retype_end.result) c.narrow.ensures c.retype_end.ensures in
+    goes _ (d.fits c.args.scratch.now (found_type c.chooses_over.ensures.type c.in_ok-after.ensures.ok_part) c.requires.1)
+    (chooses_so _ (acts_so c.acting.ensures c.in_ok-e.ensures.ok_part) c.chooses_over.ensures c.in_ok-after.ensures.ok_part d)

@@ -1,102 +1,62 @@
-use mathlib.Core.Path.{refl, sym, ◌∙◌, subst}
+use mathlib.Core.Path.{refl, subst}
 use native.Mathlib.Omega.{arith}
 use Rattle.check_contexts.specs.Halves.{held_bounded}
-use Rattle.read_tables.specs.Access.{node_there}
 use Rattle.check_contexts.specs.Held.{Retypes}
-use Rattle.check_terms.specs.Sends.{acts_not, acts_so, sees_not, sees_so, end_found_lem, found_type, passes_absent, passes_nothing, passes_itself, passes_not, passes_so}
-use Rattle.check_terms.specs.Next.{stops, goes}
+use Rattle.read_tables.specs.Access.{node_there}
+use Rattle.check_terms.specs.Sends.{acts_so, sees_so, found_type, passes_absent, passes_nothing, passes_itself, passes_not, passes_so}
+use Rattle.check_terms.specs.Next.{stops, goes, handed_on}
 use Rattle.check_terms.proofs.sends.pass_next.Goals as goal
 
-pub returns-in_default : goal.returns-in_default
-returns-in_default c =
-    let text = c.args.text.now in
-    let scratch = c.args.scratch.now in
-    let h = c.args.h in
-    stops text scratch 10 h refl (passes_absent text scratch h c.args.c c.args.a
-    (acts_not text scratch h c.args.c _ c.acting-f.ensures c.in_default.is))
+pub returns-in_err-e : goal.returns-in_err-e
+returns-in_err-e c =
+    let none = c.in_err-e.ensures.ok_part in
+    stops (handed_on _ c.from_residual.ensures.1 none c.in_err-e.ensures.value) (passes_absent _ c.acting.ensures none)
 
-pub find_end-g-requires : goal.find_end-g-requires
-find_end-g-requires c = c.requires.1.many
+pub find_end-requires : goal.find_end-requires
+find_end-requires c = c.requires.1.many
 
-pub returns-in_default-g : goal.returns-in_default-g
-returns-in_default-g c =
-    let text = c.args.text.now in
-    let scratch = c.args.scratch.now in
-    let h = c.args.h in
-    stops text scratch 10 h refl (passes_nothing text scratch h c.args.c c.args.a c.in-Found.e
-    (acts_so text scratch h c.args.c _ c.in-Found.e c.acting-f.ensures c.in-Found.is)
-    (sees_not text scratch h c.args.a _ c.find_end-g.ensures c.in_default-g.is))
+pub returns-in_err-d : goal.returns-in_err-d
+returns-in_err-d c =
+    let none = c.in_err-d.ensures.ok_part in
+    stops (handed_on _ c.from_residual-in_err-d.ensures.1 none c.in_err-d.ensures.value)
+    (passes_nothing _ (acts_so c.acting.ensures c.in_ok-e.ensures.ok_part) c.find_end.ensures none)
 
 pub returns-then-names_equal : goal.returns-then-names_equal
 returns-then-names_equal c =
-    let text = c.args.text.now in
-    let scratch = c.args.scratch.now in
-    let h = c.args.h in
-    stops text scratch 11 h refl (passes_itself text scratch h c.args.c c.args.a c.in-Found.e
-    (acts_so text scratch h c.args.c _ c.in-Found.e c.acting-f.ensures c.in-Found.is) c.in-Found-g.d
-    (sees_so text scratch h c.args.a _ c.in-Found-g.d c.find_end-g.ensures c.in-Found-g.is) (sym c.names_equal.ensures ∙ c.if-names_equal.true))
+    stops refl (passes_itself _ (acts_so c.acting.ensures c.in_ok-e.ensures.ok_part)
+    (sees_so c.requires.1 c.find_end.ensures c.in_ok-d.ensures.ok_part) c.if-names_equal.ensures)
 
-pub passes_over-t-requires : goal.passes_over-t-requires
-passes_over-t-requires c =
-    let find-end = c.find_end-g in
-    let acting = c.acting-f in
-    let text = c.args.text.now in
-    let scratch = c.args.scratch.now in
-    let end-found'' = end_found_lem text scratch _ c.in-Found.e acting.ensures.fits c.in-Found.is in
-    let end-found' = end_found_lem text scratch _ c.in-Found-g.d (find-end.ensures.fits scratch c.requires.1) c.in-Found-g.is in
-    (c.requires.0, end-found''.0, end-found'.0, end-found''.1, end-found'.1)
+pub passes_over-requires : goal.passes_over-requires
+passes_over-requires c =
+    let over = acts_so c.acting.ensures c.in_ok-e.ensures.ok_part in
+    let what = sees_so c.requires.1 c.find_end.ensures c.in_ok-d.ensures.ok_part in
+    (c.requires.0, over.fits, what.fits, over.side, what.side)
 
-pub returns-in_default-t : goal.returns-in_default-t
-returns-in_default-t c =
-    let text = c.args.text.now in
-    let scratch = c.args.scratch.now in
-    let h = c.args.h in
-    stops text scratch 11 h refl (passes_not text scratch h c.args.c c.args.a c.in-Found.e
-    (acts_so text scratch h c.args.c _ c.in-Found.e c.acting-f.ensures c.in-Found.is) c.in-Found-g.d
-    (sees_so text scratch h c.args.a _ c.in-Found-g.d c.find_end-g.ensures c.in-Found-g.is)
-    (sym c.names_equal.ensures ∙ c.if-names_equal.false) _ c.passes_over-t.ensures c.in_default-t.is)
+pub returns-in_err-after : goal.returns-in_err-after
+returns-in_err-after c =
+    let none = c.in_err-after.ensures.ok_part in
+    stops (handed_on _ c.from_residual-in_err-after.ensures.1 none c.in_err-after.ensures.value)
+    (passes_not _ (acts_so c.acting.ensures c.in_ok-e.ensures.ok_part)
+    (sees_so c.requires.1 c.find_end.ensures c.in_ok-d.ensures.ok_part) c.if-names_equal.ensures c.passes_over.ensures none)
 
 pub drop_end-left-requires : goal.drop_end-left-requires
 drop_end-left-requires c = c.requires.1.many
 
-pub narrow-node-requires : goal.narrow-node-requires
-narrow-node-requires c =
-    omega (
-      arith,
-      node_there c.args.text.now c.args.scratch.now c.requires.0 _
-          (found_type c.args.text.now c.args.scratch.now _ c.in-At.after c.passes_over-t.ensures.type c.in-At.is),
-    )
+pub narrow-requires : goal.narrow-requires
+narrow-requires c = omega (arith, node_there _ _ c.requires.0 _ (found_type c.passes_over.ensures.type c.in_ok-after.ensures.ok_part))
 
-pub retype_end-r-requires-clause-count_le_held_limit : goal.retype_end-r-requires-clause-count_le_held_limit
-retype_end-r-requires-clause-count_le_held_limit c =
-    let scratch = c.args.scratch.now in
-    let text = c.args.text.now in
-    let u = c.drop_end-left.ensures.fits scratch c.requires.1 in (
-      u.many,
-      omega (
-        arith,
-        node_there text scratch c.requires.0 _ (found_type text scratch _ c.in-At.after c.passes_over-t.ensures.type
-            c.in-At.is),
-        c.narrow-node.ensures,
-      ),
-    )
+pub retype_end-requires-clause-count_le_held_limit : goal.retype_end-requires-clause-count_le_held_limit
+retype_end-requires-clause-count_le_held_limit c = (
+  (c.drop_end-left.ensures.fits _ c.requires.1).many,
+  omega (arith, node_there _ _ c.requires.0 _ (found_type c.passes_over.ensures.type c.in_ok-after.ensures.ok_part), c.narrow.ensures),
+)
 
-pub retype_end-r-requires-clause-all : goal.retype_end-r-requires-clause-all
-retype_end-r-requires-clause-all c =
-    let scratch = c.args.scratch.now in
-    let text = c.args.text.now in
-    let u = c.drop_end-left.ensures.fits scratch c.requires.1 in held_bounded u
+pub retype_end-requires-clause-all : goal.retype_end-requires-clause-all
+retype_end-requires-clause-all c = held_bounded (c.drop_end-left.ensures.fits _ c.requires.1)
 
 pub returns : goal.returns
 returns c =
-    let drop_end = c.drop_end-left in
-    let Passes-over = c.passes_over-t in
-    let text = c.args.text.now in
-    let c-arg = c.args.c in
-    let scratch = c.args.scratch.now in
-    let h = c.args.h in
-    let d = (subst (λ j. Retypes text drop_end.result c-arg j c.retype_end-r.result) c.narrow-node.ensures c.retype_end-r.ensures) in
-    goes text scratch _ (d.fits scratch (found_type text scratch _ c.in-At.after Passes-over.ensures.type c.in-At.is) (drop_end.ensures.fits scratch c.requires.1))
-    (passes_so text scratch h c-arg c.args.a c.in-Found.e (acts_so text scratch h c-arg _ c.in-Found.e c.acting-f.ensures c.in-Found.is) c.in-Found-g.d
-    (sees_so text scratch h c.args.a _ c.in-Found-g.d c.find_end-g.ensures c.in-Found-g.is) (sym c.names_equal.ensures ∙ c.if-names_equal.false) _
-    Passes-over.ensures c.in-At.after c.in-At.is _ _ drop_end.ensures d)
+    let d = subst (λ j. Retypes c.args.text.now c.drop_end-left.result c.args.c j c.retype_end.result) c.narrow.ensures c.retype_end.ensures in
+    goes _ (d.fits c.args.scratch.now (found_type c.passes_over.ensures.type c.in_ok-after.ensures.ok_part) (c.drop_end-left.ensures.fits _ c.requires.1))
+    (passes_so _ (acts_so c.acting.ensures c.in_ok-e.ensures.ok_part) (sees_so c.requires.1 c.find_end.ensures c.in_ok-d.ensures.ok_part)
+    c.if-names_equal.ensures c.passes_over.ensures c.in_ok-after.ensures.ok_part c.drop_end-left.ensures d)

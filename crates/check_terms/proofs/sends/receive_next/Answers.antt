@@ -1,147 +1,80 @@
-use mathlib.Core.Path.{refl, sym, ◌∙◌, subst}
+use mathlib.Core.Path.{refl, subst}
 use native.Mathlib.Omega.{arith}
-use Rattle.read_tables.specs.Access.{node_there}
-use Rattle.check_types.specs.Acting.{passed_in}
-use Rattle.check_contexts.specs.Held.{Retypes, Brings}
 use Rattle.check_contexts.specs.Halves.{held_bounded}
-use Rattle.check_terms.specs.Sends.{acts_not, acts_so, end_found_lem, retyped_count, receives_absent, receives_nothing, receives_known, receives_full, receives_so}
-use Rattle.check_terms.specs.Next.{stops, goes}
+use Rattle.check_contexts.specs.Held.{Retypes, Brings}
+use Rattle.read_tables.specs.Access.{node_there}
+use Rattle.check_terms.specs.Sends.{acts_so, retyped_count, received_types, receives_absent, receives_nothing, receives_known, receives_full, receives_so}
+use Rattle.check_terms.specs.Next.{stops, goes, handed_on}
 use Rattle.check_terms.proofs.sends.receive_next.Goals as goal
 
-pub returns-in_default : goal.returns-in_default
-returns-in_default c =
-    let text = c.args.text.now in
-    let scratch = c.args.scratch.now in
-    let h = c.args.h in
-    stops text scratch 10 h refl (receives_absent text scratch h c.args.c c.args.x
-    (acts_not text scratch h c.args.c _ c.acting-f.ensures c.in_default.is))
+pub returns-in_err-e : goal.returns-in_err-e
+returns-in_err-e c =
+    let none = c.in_err-e.ensures.ok_part in
+    stops (handed_on _ c.from_residual.ensures.1 none c.in_err-e.ensures.value) (receives_absent _ c.acting.ensures none)
 
-pub takes_from-t-requires : goal.takes_from-t-requires
-takes_from-t-requires c =
-    let text = c.args.text.now in
-    let scratch = c.args.scratch.now in
-    let end-found' = end_found_lem text scratch _ c.in-Found.e c.acting-f.ensures.fits c.in-Found.is in
-    (c.requires.0.area, node_there text scratch c.requires.0 _ end-found'.0.type, end-found'.1)
+pub takes_from-requires : goal.takes_from-requires
+takes_from-requires c =
+    let found = acts_so c.acting.ensures c.in_ok-e.ensures.ok_part in
+    (c.requires.0.area, node_there _ _ c.requires.0 _ found.fits.type, found.side)
 
-pub returns-in_default-t : goal.returns-in_default-t
-returns-in_default-t c =
-    let acting = c.acting-f in
-    let text = c.args.text.now in
-    let scratch = c.args.scratch.now in
-    let h = c.args.h in
-    stops text scratch 11 h refl (receives_nothing text scratch h c.args.c c.args.x c.in-Found.e
-    (acts_so text scratch h c.args.c _ c.in-Found.e acting.ensures c.in-Found.is) _
-    (c.takes_from-t.ensures.says text c.requires.0 (end_found_lem text scratch _ c.in-Found.e acting.ensures.fits c.in-Found.is).0) c.in_default-t.is)
+pub returns-in_err-t : goal.returns-in_err-t
+returns-in_err-t c =
+    let none = c.in_err-t.ensures.ok_part in
+    stops (handed_on _ c.from_residual-in_err-t.ensures.1 none c.in_err-t.ensures.value)
+    (receives_nothing _ c.requires.0 (acts_so c.acting.ensures c.in_ok-e.ensures.ok_part) c.takes_from.ensures none)
 
 pub is_new-requires : goal.is_new-requires
 is_new-requires c = c.requires.1.many
 
 pub returns-then-not-is_new : goal.returns-then-not-is_new
 returns-then-not-is_new c =
-    let acting = c.acting-f in
-    let text = c.args.text.now in
-    let scratch = c.args.scratch.now in
-    let h = c.args.h in
-    stops text scratch 15 h refl (receives_known text scratch h c.args.c c.args.x c.in-Found.e
-    (acts_so text scratch h c.args.c _ c.in-Found.e acting.ensures c.in-Found.is) _
-    (c.takes_from-t.ensures.says text c.requires.0 (end_found_lem text scratch _ c.in-Found.e acting.ensures.fits c.in-Found.is).0) c.in-Passes.sender
-    c.in-Passes.side c.in-Passes.what c.in-Passes.after c.in-Passes.is (sym (c.is_new.ensures scratch) ∙ c.if-not-is_new.true))
+    stops refl (receives_known _ c.requires.0 (acts_so c.acting.ensures c.in_ok-e.ensures.ok_part) c.takes_from.ensures c.in_ok-t.ensures.ok_part
+    (c.if-not-is_new.ensures c.args.scratch.now))
 
 pub returns-then-h-eq-HELD : goal.returns-then-h-eq-HELD
 returns-then-h-eq-HELD c =
-    let acting = c.acting-f in
-    let text = c.args.text.now in
-    let scratch = c.args.scratch.now in
-    let h = c.args.h in
-    stops text scratch 15 h refl (receives_full text scratch h c.args.c c.args.x c.in-Found.e
-    (acts_so text scratch h c.args.c _ c.in-Found.e acting.ensures c.in-Found.is) _
-    (c.takes_from-t.ensures.says text c.requires.0 (end_found_lem text scratch _ c.in-Found.e acting.ensures.fits c.in-Found.is).0) c.in-Passes.sender
-    c.in-Passes.side c.in-Passes.what c.in-Passes.after c.in-Passes.is (sym (c.is_new.ensures scratch) ∙ c.if-not-is_new.false)
-    (omega (arith, c.if-h-eq-HELD.true)))
+    stops refl (receives_full _ c.requires.0 (acts_so c.acting.ensures c.in_ok-e.ensures.ok_part) c.takes_from.ensures c.in_ok-t.ensures.ok_part
+    (c.if-not-is_new.ensures c.args.scratch.now) (omega (arith, c.if-h-eq-HELD.true)))
 
-pub narrow-j-requires : goal.narrow-j-requires
-narrow-j-requires c =
-    let text = c.args.text.now in
-    let scratch = c.args.scratch.now in
-    omega (
-      arith,
-      node_there text scratch c.requires.0 _ (subst (passed_in text scratch) c.in-Passes.is
-          (c.takes_from-t.ensures.says text c.requires.0
-          (end_found_lem text scratch _ c.in-Found.e c.acting-f.ensures.fits c.in-Found.is).0).parts).1,
-    )
+pub narrow-requires : goal.narrow-requires
+narrow-requires c =
+    let types = received_types c.args.x c.requires.0 (acts_so c.acting.ensures c.in_ok-e.ensures.ok_part) c.takes_from.ensures c.in_ok-t.ensures.ok_part in
+    omega (arith, node_there _ _ c.requires.0 _ types.1)
 
 pub retype_end-left-requires-clause-count_le_held_limit : goal.retype_end-left-requires-clause-count_le_held_limit
 retype_end-left-requires-clause-count_le_held_limit c =
-    let text = c.args.text.now in
-    let scratch = c.args.scratch.now in (
-      c.requires.1.many,
-      omega (
-        arith,
-        node_there text scratch c.requires.0 _
-            (subst (passed_in text scratch) c.in-Passes.is (c.takes_from-t.ensures.says text c.requires.0
-            (end_found_lem text scratch _ c.in-Found.e c.acting-f.ensures.fits c.in-Found.is).0).parts).1,
-        c.narrow-j.ensures,
-      ),
-    )
+    let types = received_types c.args.x c.requires.0 (acts_so c.acting.ensures c.in_ok-e.ensures.ok_part) c.takes_from.ensures c.in_ok-t.ensures.ok_part in
+    (c.requires.1.many, omega (arith, node_there _ _ c.requires.0 _ types.1, c.narrow.ensures))
 
 pub retype_end-left-requires-clause-all : goal.retype_end-left-requires-clause-all
-retype_end-left-requires-clause-all c =
-    let text = c.args.text.now in
-    let scratch = c.args.scratch.now in held_bounded c.requires.1
+retype_end-left-requires-clause-all c = held_bounded c.requires.1
 
-pub narrow-at-requires : goal.narrow-at-requires
-narrow-at-requires c = omega (arith, c.requires.2)
+pub narrow-requires-2 : goal.narrow-requires-2
+narrow-requires-2 c = omega (arith, c.requires.2)
 
-pub narrow-node-requires : goal.narrow-node-requires
-narrow-node-requires c =
-    let text = c.args.text.now in
-    let scratch = c.args.scratch.now in
-    omega (
-      arith,
-      node_there text scratch c.requires.0 _ (subst (passed_in text scratch) c.in-Passes.is
-          (c.takes_from-t.ensures.says text c.requires.0
-          (end_found_lem text scratch _ c.in-Found.e c.acting-f.ensures.fits c.in-Found.is).0).parts).0,
-    )
+pub narrow-requires-3 : goal.narrow-requires-3
+narrow-requires-3 c =
+    let types = received_types c.args.x c.requires.0 (acts_so c.acting.ensures c.in_ok-e.ensures.ok_part) c.takes_from.ensures c.in_ok-t.ensures.ok_part in
+    omega (arith, node_there _ _ c.requires.0 _ types.0)
 
-pub bring_end-more-requires : goal.bring_end-more-requires
-bring_end-more-requires c =
-    let takes-from = c.takes_from-t in
-    let acting = c.acting-f in
-    let text = c.args.text.now in
-    let scratch = c.args.scratch.now in
-    let end-found' = end_found_lem text scratch _ c.in-Found.e acting.ensures.fits c.in-Found.is in (
-      omega (
-        arith,
-        c.requires.1.many,
-        c.if-h-eq-HELD.false,
-        retyped_count text scratch c.args.h c.args.c _ _
-            (subst (λ j. Retypes text c.args.h c.args.c j c.retype_end-left.result) c.narrow-j.ensures c.retype_end-left.ensures),
-      ),
-      omega (arith, c.requires.2, c.narrow-at.ensures),
-      (subst (passed_in text scratch) c.in-Passes.is (takes-from.ensures.says text c.requires.0 end-found'.0).parts).3,
-      omega (
-        arith,
-        node_there text scratch c.requires.0 _ (subst (passed_in text scratch) c.in-Passes.is (takes-from.ensures.says text c.requires.0 end-found'.0).parts).0,
-        c.narrow-node.ensures,
-      ),
+pub bring_end-requires : goal.bring_end-requires
+bring_end-requires c =
+    let types = received_types c.args.x c.requires.0 (acts_so c.acting.ensures c.in_ok-e.ensures.ok_part) c.takes_from.ensures c.in_ok-t.ensures.ok_part in
+    let d = subst (λ j. Retypes c.args.text.now c.args.h c.args.c j c.retype_end-left.result) c.narrow.ensures c.retype_end-left.ensures in (
+      omega (arith, c.requires.1.many, c.if-h-eq-HELD.false, retyped_count c.args.text.now c.args.scratch.now c.args.h c.args.c _ _ d),
+      omega (arith, c.requires.2, c.narrow-2.ensures),
+      types.3,
+      omega (arith, node_there _ _ c.requires.0 _ types.0, c.narrow-3.ensures),
       omega arith,
     )
 
 pub returns : goal.returns
 returns c =
-    let retype-end = c.retype_end-left in
-    let takes-from = c.takes_from-t in
-    let acting = c.acting-f in
-    let text = c.args.text.now in
-    let h = c.args.h in
-    let c-arg = c.args.c in
-    let scratch = c.args.scratch.now in
-    let d = (subst (λ j. Retypes text h c-arg j retype-end.result) c.narrow-j.ensures retype-end.ensures) in
-    let e = (subst (λ j. Brings retype-end.result c.args.x c.in-Passes.side j 0 c.bring_end-more.result) c.narrow-node.ensures
-    (subst (λ i. Brings retype-end.result i c.in-Passes.side c.narrow-node.result 0 c.bring_end-more.result) c.narrow-at.ensures c.bring_end-more.ensures)) in
-    let end-found' = end_found_lem text scratch _ c.in-Found.e acting.ensures.fits c.in-Found.is in
-    goes text scratch _ (e.fits text scratch (subst (passed_in text scratch) c.in-Passes.is (takes-from.ensures.says text c.requires.0 end-found'.0).parts).0
-    (d.fits scratch (subst (passed_in text scratch) c.in-Passes.is (takes-from.ensures.says text c.requires.0 end-found'.0).parts).1 c.requires.1)) (receives_so text scratch h c-arg
-    c.args.x c.in-Found.e (acts_so text scratch h c-arg _ c.in-Found.e acting.ensures c.in-Found.is) _ (takes-from.ensures.says text c.requires.0 end-found'.0)
-    c.in-Passes.sender c.in-Passes.side c.in-Passes.what c.in-Passes.after c.in-Passes.is
-    (sym (c.is_new.ensures scratch) ∙ c.if-not-is_new.false) (omega (arith, c.requires.1.many, c.if-h-eq-HELD.false)) _ _ d e)
+    let found = acts_so c.acting.ensures c.in_ok-e.ensures.ok_part in
+    let types = received_types c.args.x c.requires.0 found c.takes_from.ensures c.in_ok-t.ensures.ok_part in
+    let d = subst (λ j. Retypes c.args.text.now c.args.h c.args.c j c.retype_end-left.result) c.narrow.ensures c.retype_end-left.ensures in
+    let e = subst (λ j. Brings c.retype_end-left.result c.args.x c.in_ok-t.t.side j 0 c.bring_end.result) c.narrow-3.ensures
+    (subst (λ i. Brings c.retype_end-left.result i c.in_ok-t.t.side c.narrow-3.result 0 c.bring_end.result) c.narrow-2.ensures c.bring_end.ensures) in
+    goes _ (e.fits c.args.text.now c.args.scratch.now types.0 (d.fits _ types.1 c.requires.1))
+    (receives_so _ c.requires.0 found c.takes_from.ensures c.in_ok-t.ensures.ok_part (c.if-not-is_new.ensures c.args.scratch.now)
+    (omega (arith, c.requires.1.many, c.if-h-eq-HELD.false)) d e)

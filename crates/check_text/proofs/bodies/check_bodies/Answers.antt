@@ -10,20 +10,20 @@ process_count-n-requires c = c.requires.area
 pub loop-i-init : goal.loop-i-init
 loop-i-init c = checking_start _ _ _ c.process_count-n.ensures
 
-pub check_body-v-requires : goal.check_body-v-requires
-check_body-v-requires c = (c.requires, omega (arith, c.loop-i-test.true, c.process_count-n.ensures))
+pub check_body-requires : goal.check_body-requires
+check_body-requires c = (c.requires, omega (arith, c.loop-i-test.true, c.process_count-n.ensures))
 
-pub returns-in_default : goal.returns-in_default
-returns-in_default c =
+pub returns-in_err-check_body : goal.returns-in_err-check_body
+returns-in_err-check_body c =
     let loop = c.loop-i in
-    ap verdict_of c.in_default.is ∙ checking_stops c.args.text.now c.args.scratch.now _ loop.i loop.invariant c.loop-i-test.true _ _
-    (sym c.check_body-v.ensures ∙ ap verdict_of c.in_default.is)
+    checking_stops c.args.text.now c.args.scratch.now _ loop.i loop.invariant c.loop-i-test.true _ c.from_residual.ensures.1
+    (sym c.check_body.ensures ∙ ap verdict_of c.in_err-check_body.was)
 
 pub loop-i-preserved : goal.loop-i-preserved
 loop-i-preserved c =
     let loop = c.loop-i in
     checking_on c.args.text.now c.args.scratch.now _ loop.i loop.invariant c.loop-i-test.true
-    (sym c.check_body-v.ensures ∙ ap verdict_of c.in-Fine.is) _ refl
+    (sym c.check_body.ensures ∙ ap verdict_of c.in_ok-check_body.was) _ refl
 
 pub returns : goal.returns
 returns c = checking_end c.args.text.now c.args.scratch.now _ c.loop-i.i c.loop-i.invariant c.loop-i-test.false

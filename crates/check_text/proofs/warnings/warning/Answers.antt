@@ -20,23 +20,23 @@ signature_held-h-requires c =
     let room = seek_room e.text.now e.scratch.now _ _ _ _ c.loop-i.invariant c.loop-i-test.true _ g in
     (t, g.stands e.text.now t (omega (arith, c.loop-i-test.true, c.process_count-n.ensures)), g.small, omega (arith, room), omega (arith, room))
 
-pub missing_label-s-requires : goal.missing_label-s-requires
-missing_label-s-requires c =
+pub missing_label-requires : goal.missing_label-requires
+missing_label-requires c =
     let t = c.requires.0 in
     let e = c.args in
     let g = c.declared_process-e.ensures in
     let f = c.signature_held-h.ensures in
     (t, f.fits, (g.stands e.text.now t (omega (arith, c.loop-i-test.true, c.process_count-n.ensures))).body, seek_fine e.text.now e.scratch.now _ _ _ _ c.loop-i.invariant c.loop-i-test.true _ g _ f)
 
-pub returns-in-At : goal.returns-in-At
-returns-in-At c =
+pub returns-in-Break : goal.returns-in-Break
+returns-in-Break c =
     let e = c.args in
-    seek_found e.text.now e.scratch.now _ _ _ _ c.loop-i.invariant c.loop-i-test.true _ c.declared_process-e.ensures _ c.signature_held-h.ensures _ c.missing_label-s.ensures _ _ c.in-At.is
+    seek_found e.text.now e.scratch.now _ _ _ _ c.loop-i.invariant c.loop-i-test.true _ c.declared_process-e.ensures _ c.signature_held-h.ensures _ c.missing_label.ensures _ c.in-Break.is
 
 pub loop-i-preserved : goal.loop-i-preserved
 loop-i-preserved c =
     let e = c.args in
-    seek_on e.text.now e.scratch.now _ _ _ _ c.loop-i.invariant c.loop-i-test.true _ c.declared_process-e.ensures _ c.signature_held-h.ensures _ c.missing_label-s.ensures _ c.in-Past.is _ refl
+    seek_on e.text.now e.scratch.now _ _ _ _ c.loop-i.invariant c.loop-i-test.true _ c.declared_process-e.ensures _ c.signature_held-h.ensures _ c.missing_label.ensures _ c.in-Continue.is _ refl
 
 pub returns : goal.returns
 returns c = let e = c.args in seek_end e.text.now e.scratch.now _ _ _ _ c.loop-i.invariant c.loop-i-test.false

@@ -4,6 +4,3 @@ use Rattle.check_text.proofs.warnings.warning.Given as goal
 
 abbrev pub invariant-loop-i : goal.invariant-loop-i
 invariant-loop-i l = Seeking l.text l.scratch l.n l.k l.i l.left
-
-abbrev pub decreases-loop-i : goal.decreases-loop-i
-decreases-loop-i l = l.n - l.i

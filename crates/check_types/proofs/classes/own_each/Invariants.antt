@@ -1,12 +1,7 @@
-use Prim.Native.Nat.{◌-◌, ◌≤◌}
-use mathlib.Core.Path.{◌≡◌}
-use lib.ListN.{length}
+use Rattle.std.proofs.Common.{◌≡◌, length}
 use Rattle.notation.specs.Limits.{type_term_limit}
 use Rattle.run_words.specs.Values.{Moved}
 use Rattle.check_types.proofs.classes.own_each.Given as goal
 
 abbrev pub invariant-loop-k : goal.invariant-loop-k
-invariant-loop-k l = (l.k ≤ type_term_limit) × (length l.initial.representatives ≡ type_term_limit → Moved l.initial.representatives l.representatives 0 l.k (λ i. i))
-
-abbrev pub decreases-loop-k : goal.decreases-loop-k
-decreases-loop-k l = type_term_limit - l.k
+invariant-loop-k l = length l.initial.representatives ≡ type_term_limit → Moved l.initial.representatives l.representatives 0 l.k (λ i. i)

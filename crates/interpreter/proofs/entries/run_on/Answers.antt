@@ -1,35 +1,23 @@
-use mathlib.Core.Path.{◌≡◌}
-use Prim.Native.Nat.{◌≤◌}
-use native.Mathlib.Omega.{arith}
-use lib.ListN.{length}
-use Rattle.check_accepted.specs.Verdicts.{scratch_enough_lem, text_accepted}
-use Rattle.interpreter.specs.Inside.{answers_accepted, answers_refused}
-use Rattle.interpreter.specs.Entries.{to_run_on}
-use borrow.Author.Rules.{rules}
+use Rattle.std.proofs.Common.{◌≤◌, length, rules}
+use Rattle.std.proofs.lemmas.Result.{err_from_is_err_and}
 use Rattle.notation.specs.Limits.{scratch_words}
+use Rattle.check_accepted.specs.Verdicts.{text_accepted}
+use Rattle.interpreter.specs.Inside.{scratch_long, answers_accepted, answers_refused}
+use Rattle.interpreter.specs.Entries.{to_run_on}
 use Rattle.interpreter.proofs.entries.run_on.Goals as goal
+
+pub returns-in_err-check : goal.returns-in_err-check
+returns-in_err-check c =
+    let p = err_from_is_err_and c.from_residual.result c.from_residual.ensures.1 in
+    rw (p.1, p.2) (answers_refused _ _ _ _ c.check.ensures (to_run_on c.args.budget) _ c.in_err-check.was)
 
 pub slice_bounds-run_on_in-end : goal.slice_bounds-run_on_in-end
 slice_bounds-run_on_in-end c =
-    let l : length c.check-v.new.scratch ≡ length c.args.scratch.now = search rules in
-    let h : scratch_words ≤ length c.check-v.new.scratch = omega (
-      arith,
-      l,
-      scratch_enough_lem c.args.text.now c.args.scratch.now c.check-v.new.scratch _ c.check-v.ensures
-          c.in_default.is,
-    ) in
+    let h : scratch_words ≤ length c.check.new.scratch = scratch_long _ _ _ _ c.check.ensures c.in_ok-check.was in
     search rules
 
 pub run_on_in-requires : goal.run_on_in-requires
-run_on_in-requires c = text_accepted c.args.text.now c.args.scratch.now c.check-v.new.scratch _ c.check-v.ensures c.in_default.is
-
-pub returns-in_default : goal.returns-in_default
-returns-in_default c =
-    let run = c.args.run.now in
-    answers_accepted c.args.text.now c.args.scratch.now c.check-v.new.scratch _ c.check-v.ensures (to_run_on c.args.budget) run
-    c.in_default.is c.run_on_in.ensures
+run_on_in-requires c = text_accepted _ _ _ _ c.check.ensures c.in_ok-check.was
 
 pub returns : goal.returns
-returns c =
-    let run = c.args.run.now in
-    answers_refused c.args.text.now c.args.scratch.now c.check-v.new.scratch _ c.check-v.ensures (to_run_on c.args.budget) run c.in-Refused.n c.in-Refused.at c.in-Refused.is
+returns c = answers_accepted _ _ _ _ c.check.ensures (to_run_on c.args.budget) _ c.in_ok-check.was c.run_on_in.ensures

@@ -9,7 +9,7 @@ pub returns-in-Uncaught : goal.returns-in-Uncaught
 returns-in-Uncaught c = sym (ap stepped_by c.in-Uncaught.is)
 
 pub returns-in-NotOpen : goal.returns-in-NotOpen
-returns-in-NotOpen c = sym (ap stepped_by c.in-NotOpen.is)
+returns-in-NotOpen c = rw c.of_call.ensures (sym (ap stepped_by c.in-NotOpen.is))
 
 pub returns-in-Lacking : goal.returns-in-Lacking
-returns-in-Lacking c = sym (ap stepped_by c.in-Lacking.is)
+returns-in-Lacking c = rw c.of_call-in-Lacking.ensures (sym (ap stepped_by c.in-Lacking.is))

@@ -1,31 +1,23 @@
 use mathlib.Core.Path.{refl}
+use Rattle.std.proofs.lemmas.Result.{err_from_is_err_and}
 use Rattle.interpreter.specs.Entries.{to_run_on}
-use Rattle.check_accepted.specs.Texts.{tables_in, everywhere_in, bodies_in}
-use Rattle.interpreter.specs.Told.{holds_in, formed_in, run_in, well_formed_in, too_short, stranger, run_told}
+use Rattle.check_accepted.specs.Texts.{bodies_in}
+use Rattle.interpreter.specs.Told.{run_in, well_formed_in, run_told}
 use Rattle.interpreter.proofs.inside.run_on_in.Goals as goal
 
-pub returns-then-run-lt-RUN_WORDS : goal.returns-then-run-lt-RUN_WORDS
-returns-then-run-lt-RUN_WORDS c = too_short c.requires (to_run_on _) refl c.if-run-lt-RUN_WORDS.true
+pub returns-in_err-holds_run : goal.returns-in_err-holds_run
+returns-in_err-holds_run c =
+    let p = err_from_is_err_and c.from_residual.result c.from_residual.ensures.1 in
+    rw (p.1, p.2) (c.in_err-holds_run.ensures.err.refuses (to_run_on _) refl)
 
-pub well_formed-requires-clause-tables : goal.well_formed-requires-clause-tables
-well_formed-requires-clause-tables c = (tables_in c.requires, everywhere_in c.requires)
+pub steps_until-end-requires-clause-run_of : goal.steps_until-end-requires-clause-run_of
+steps_until-end-requires-clause-run_of c = let h = c.in_ok-holds_run.ensures.ok in run_in c.requires _ h.0 h.1
 
-pub well_formed-requires-clause-run_words_in_bounds : goal.well_formed-requires-clause-run_words_in_bounds
-well_formed-requires-clause-run_words_in_bounds c = c.if-run-lt-RUN_WORDS.false
+pub steps_until-end-requires-clause-well_formed : goal.steps_until-end-requires-clause-well_formed
+steps_until-end-requires-clause-well_formed c = well_formed_in c.requires _ c.in_ok-holds_run.ensures.ok.1
 
-pub steps_until-requires-clause-run_of : goal.steps_until-requires-clause-run_of
-steps_until-requires-clause-run_of c = let f = holds_in c.requires _ (c.well_formed-2.ensures.yes c.if-well_formed.true) in run_in c.requires _ c.if-run-lt-RUN_WORDS.false f
-
-pub steps_until-requires-clause-well_formed : goal.steps_until-requires-clause-well_formed
-steps_until-requires-clause-well_formed c = let f = holds_in c.requires _ (c.well_formed-2.ensures.yes c.if-well_formed.true) in well_formed_in c.requires _ f
-
-pub steps_until-requires-clause-bodies : goal.steps_until-requires-clause-bodies
-steps_until-requires-clause-bodies c = bodies_in c.requires
-
-pub returns-then-well_formed : goal.returns-then-well_formed
-returns-then-well_formed c =
-    run_told c.requires c.if-run-lt-RUN_WORDS.false (holds_in c.requires _ (c.well_formed-2.ensures.yes c.if-well_formed.true))
-    c.steps_until.ensures
+pub steps_until-end-requires-clause-bodies : goal.steps_until-end-requires-clause-bodies
+steps_until-end-requires-clause-bodies c = bodies_in c.requires
 
 pub returns : goal.returns
-returns c = stranger c.requires (to_run_on _) refl c.if-run-lt-RUN_WORDS.false (λ f. c.well_formed-2.ensures.no c.if-well_formed.false (formed_in c.requires _ f))
+returns c = let h = c.in_ok-holds_run.ensures.ok in run_told c.requires h.0 h.1 c.steps_until-end.ensures

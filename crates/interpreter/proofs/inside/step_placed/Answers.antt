@@ -3,17 +3,15 @@ use mathlib.Core.Path.{sym, ◌∙◌}
 use Rattle.interpreter.specs.Told.{small_in, run_in, well_formed_in, step_halted, step_nobody, step_told}
 use Rattle.interpreter.proofs.inside.step_placed.Goals as goal
 
-pub is_halted-requires : goal.is_halted-requires
-is_halted-requires c = c.requires.run_words_in_bounds.0
-
 pub returns-then-is_halted : goal.returns-then-is_halted
-returns-then-is_halted c = step_halted c.requires.text_in c.requires.run_words_in_bounds.0 c.requires.run_words_in_bounds.1 (sym c.is_halted.ensures ∙ c.if-is_halted.true)
-
-pub count-requires : goal.count-requires
-count-requires c = c.requires.run_words_in_bounds.0
+returns-then-is_halted c =
+    rw c.of_call.ensures (step_halted c.requires.text_in c.requires.run_words_in_bounds.0 c.requires.run_words_in_bounds.1 (sym c.is_halted.ensures ∙ c.if-is_halted.true))
 
 pub returns-then-count-place : goal.returns-then-count-place
-returns-then-count-place c = step_nobody c.requires.text_in c.requires.run_words_in_bounds.0 c.requires.run_words_in_bounds.1 (sym c.is_halted.ensures ∙ c.if-is_halted.false) (omega (arith, c.count.ensures, c.if-count-place.true))
+returns-then-count-place c =
+    rw c.of_call-then-count-place.ensures
+    (step_nobody c.requires.text_in c.requires.run_words_in_bounds.0 c.requires.run_words_in_bounds.1 (sym c.is_halted.ensures ∙ c.if-is_halted.false)
+    (omega (arith, c.count.ensures, c.if-count-place.true)))
 
 pub step_at-o-requires-clause-run_of : goal.step_at-o-requires-clause-run_of
 step_at-o-requires-clause-run_of c = run_in c.requires.text_in _ c.requires.run_words_in_bounds.0 c.requires.run_words_in_bounds.1

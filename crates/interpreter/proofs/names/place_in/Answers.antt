@@ -8,7 +8,8 @@ pub exec_count-requires : goal.exec_count-requires
 exec_count-requires c = (tables_in c.requires).area
 
 pub returns-then-exec_count-i : goal.returns-then-exec_count-i
-returns-then-exec_count-i c = place_none c.requires (omega (arith, execs_many c.args.text.now c.args.tables.now, c.exec_count.ensures, c.if-exec_count-i.true)) (omega arith)
+returns-then-exec_count-i c =
+    rw c.of_call.ensures (place_none c.requires (omega (arith, execs_many c.args.text.now c.args.tables.now, c.exec_count.ensures, c.if-exec_count-i.true)))
 
 pub exec_at-requires : goal.exec_at-requires
 exec_at-requires c = (

@@ -5,26 +5,13 @@ use native.Mathlib.Omega.{arith}
 use Rattle.interpreter.proofs.places.list_steps.Goals as goal
 
 pub loop-k-init : goal.loop-k-init
-loop-k-init c = (listing_start process_places _, omega arith)
-
-pub bounds-steps-k : goal.bounds-steps-k
-bounds-steps-k c =
-    omega (
-      arith,
-      c.loop-k.invariant.0.long,
-      c.loop-k-test.true,
-      c.count-n.ensures,
-      c.requires.run_of.bounds.places,
-    )
+loop-k-init c = listing_start process_places _
 
 pub loop-k-preserved : goal.loop-k-preserved
-loop-k-preserved c = (
-  surveyed_on c.args.text.now c.args.tables.now c.args.run.now c.loop-k.invariant.0
-      (omega (arith, c.loop-k-test.true, c.count-n.ensures)) c.requires.run_of.bounds.places c.openness_at.ensures,
-  omega (arith, c.loop-k-test.true),
-)
+loop-k-preserved c =
+    surveyed_on c.args.text.now c.args.tables.now c.args.run.now c.loop-k.invariant (omega (arith, c.count-n.ensures)) c.requires.run_of.bounds.places
+    c.openness_at.ensures
 
 pub returns : goal.returns
 returns c =
-    surveyed_end c.args.text.now c.args.tables.now c.args.run.now c.loop-k.invariant.0
-    (omega (arith, c.loop-k-test.false, c.count-n.ensures)) (omega (arith, c.loop-k.invariant.1, c.count-n.ensures))
+    surveyed_end c.args.text.now c.args.tables.now c.args.run.now c.loop-k.invariant (omega (arith, c.count-n.ensures)) (omega (arith, c.count-n.ensures))

@@ -1,27 +1,20 @@
+use mathlib.Core.Path.{refl}
 use native.Mathlib.Omega.{arith}
-use Rattle.check_accepted.specs.Texts.{tables_in, everywhere_in}
-use Rattle.interpreter.specs.Told.{holds_in, formed_in, report_short, report_stranger, report_open}
+use Rattle.std.proofs.lemmas.Result.{err_from_is_err_and}
+use Rattle.interpreter.specs.Entries.{to_report}
+use Rattle.interpreter.specs.Told.{formed_in, report_open}
 use Rattle.interpreter.proofs.reports.report_in.Goals as goal
 
-pub returns-then-run-lt-RUN_WORDS : goal.returns-then-run-lt-RUN_WORDS
-returns-then-run-lt-RUN_WORDS c = report_short c.requires c.if-run-lt-RUN_WORDS.true c.no_report.ensures
-
-pub well_formed-requires-clause-tables : goal.well_formed-requires-clause-tables
-well_formed-requires-clause-tables c = (tables_in c.requires, everywhere_in c.requires)
-
-pub well_formed-requires-clause-run_words_in_bounds : goal.well_formed-requires-clause-run_words_in_bounds
-well_formed-requires-clause-run_words_in_bounds c = c.if-run-lt-RUN_WORDS.false
+pub returns-in_err-holds_run : goal.returns-in_err-holds_run
+returns-in_err-holds_run c =
+    let p = err_from_is_err_and c.from_residual.result c.from_residual.ensures.1 in
+    rw (p.1, p.2) (record { answers = c.in_err-holds_run.ensures.err.refuses to_report refl; rest = tt })
 
 pub list_numbers-numbers-requires : goal.list_numbers-numbers-requires
-list_numbers-numbers-requires c = (c.if-run-lt-RUN_WORDS.false, (c.well_formed-2.ensures.yes c.if-well_formed.true).bounded)
+list_numbers-numbers-requires c = let h = c.in_ok-holds_run.ensures.ok in (h.0, (formed_in c.requires _ h.1).bounded)
 
 pub overflow_cast-result : goal.overflow_cast-result
-overflow_cast-result c = omega (arith, c.outside_count-n.ensures, (c.well_formed-2.ensures.yes c.if-well_formed.true).bounded.channels)
-
-pub returns-then-well_formed : goal.returns-then-well_formed
-returns-then-well_formed c =
-    report_open c.requires c.if-run-lt-RUN_WORDS.false (holds_in c.requires _ (c.well_formed-2.ensures.yes c.if-well_formed.true))
-    c.outside_count-n.ensures c.list_numbers-numbers.ensures
+overflow_cast-result c = omega (arith, c.outside_count-n.ensures, (formed_in c.requires _ c.in_ok-holds_run.ensures.ok.1).bounded.channels)
 
 pub returns : goal.returns
-returns c = report_stranger c.requires c.if-run-lt-RUN_WORDS.false (λ f. c.well_formed-2.ensures.no c.if-well_formed.false (formed_in c.requires _ f)) c.no_report-2.ensures
+returns c = let h = c.in_ok-holds_run.ensures.ok in report_open c.requires h.0 h.1 c.outside_count-n.ensures c.list_numbers-numbers.ensures

@@ -8,13 +8,13 @@ use Rattle.notation.proofs.token.skip.Goals as goal
 pub loop-i-init : goal.loop-i-init
 loop-i-init c = record { left = refl }
 
-pub returns-then-not-is_blank : goal.returns-then-not-is_blank
-unfolding skip
-returns-then-not-is_blank c = scan_hit c.loop-i.invariant 0 (search rules) (ap not (sym c.is_blank.ensures) ∙ c.if-not-is_blank.true-raw)
-
 pub loop-i-preserved : goal.loop-i-preserved
-loop-i-preserved c = scan_next c.loop-i.invariant 0 (search rules) (ap not (sym c.is_blank.ensures) ∙ c.if-not-is_blank.false-raw)
+loop-i-preserved c = scan_next c.loop-i.invariant 0 (search rules) (ap not (sym c.is_blank.ensures ∙ c.if-is_blank.true))
 
-pub returns : goal.returns
+pub returns-else-is_blank : goal.returns-else-is_blank
 unfolding skip
-returns c = scan_end c.loop-i.invariant (search rules)
+returns-else-is_blank c = scan_hit c.loop-i.invariant 0 (search rules) (ap not (sym c.is_blank.ensures ∙ c.if-is_blank.false))
+
+pub returns-after-loop-i : goal.returns-after-loop-i
+unfolding skip
+returns-after-loop-i c = scan_end c.loop-i.invariant (search rules)

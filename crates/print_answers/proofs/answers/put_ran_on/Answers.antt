@@ -2,26 +2,22 @@ use Rattle.print_answers.specs.Answers.{ran_on_words}
 use Rattle.print_answers.specs.Parts.{said, shown_put}
 use Rattle.print_answers.proofs.answers.put_ran_on.Goals as goal
 
-pub returns-in-Shown : goal.returns-in-Shown
+pub returns-in-Ok-Shown : goal.returns-in-Ok-Shown
 unfolding ran_on_words
-returns-in-Shown c = said (ran_on_words c.args.text.now) c.in-Shown.is (shown_put _ c.put_steps-a.ensures.appended c.put_seen.ensures)
+returns-in-Ok-Shown c = said (ran_on_words c.args.text.now) c.in-Ok-Shown.is (rw c.in-Ok-Shown.is at c.in-Ok-Shown.field-0-is) (shown_put _ c.put_steps-a.ensures.appended c.put_seen.ensures)
 
-pub returns-in-Done : goal.returns-in-Done
+pub returns-in-Ok-Done : goal.returns-in-Ok-Done
 unfolding ran_on_words
-returns-in-Done c = said (ran_on_words c.args.text.now) c.in-Done.is c.put_steps.ensures.appended
+returns-in-Ok-Done c = said (ran_on_words c.args.text.now) c.in-Ok-Done.is (rw c.in-Ok-Done.is at c.in-Ok-Done.field-0-is) c.put_steps.ensures.appended
 
-pub returns-in-Full : goal.returns-in-Full
+pub returns-in-Ok-Full : goal.returns-in-Ok-Full
 unfolding ran_on_words
-returns-in-Full c = said (ran_on_words c.args.text.now) c.in-Full.is c.put_steps-in-Full.ensures.appended
+returns-in-Ok-Full c = said (ran_on_words c.args.text.now) c.in-Ok-Full.is (rw c.in-Ok-Full.is at c.in-Ok-Full.field-0-is) c.put_steps-in-Ok-Full.ensures.appended
 
-pub returns-in-Stopped : goal.returns-in-Stopped
+pub returns-in-Ok-Stopped : goal.returns-in-Ok-Stopped
 unfolding ran_on_words
-returns-in-Stopped c = said (ran_on_words c.args.text.now) c.in-Stopped.is c.put_steps-in-Stopped.ensures.appended
+returns-in-Ok-Stopped c = said (ran_on_words c.args.text.now) c.in-Ok-Stopped.is (rw c.in-Ok-Stopped.is at c.in-Ok-Stopped.field-0-is) c.put_steps-in-Ok-Stopped.ensures.appended
 
-pub returns-in-Uncaught : goal.returns-in-Uncaught
+pub returns-in-Ok-Uncaught : goal.returns-in-Ok-Uncaught
 unfolding ran_on_words
-returns-in-Uncaught c = said (ran_on_words c.args.text.now) c.in-Uncaught.is c.put_steps-in-Uncaught.ensures.appended
-
-pub returns-in-Refused : goal.returns-in-Refused
-unfolding ran_on_words
-returns-in-Refused c = said (ran_on_words c.args.text.now) c.in-Refused.is c.put_refused.ensures
+returns-in-Ok-Uncaught c = said (ran_on_words c.args.text.now) c.in-Ok-Uncaught.is (rw c.in-Ok-Uncaught.is at c.in-Ok-Uncaught.field-0-is) c.put_steps-in-Ok-Uncaught.ensures.appended

@@ -3,14 +3,6 @@ use Rattle.print_answers.specs.Answers.{stepped_words}
 use Rattle.print_answers.specs.Parts.{said}
 use Rattle.print_answers.proofs.answers.put_stepped.Goals as goal
 
-pub returns-in-Carried : goal.returns-in-Carried
+pub returns-in-Ok-Carried : goal.returns-in-Ok-Carried
 unfolding stepped_words
-returns-in-Carried c = said (stepped_words c.args.text.now) c.in-Carried.is (appended_on c.put-a.ensures c.put_seen.ensures)
-
-pub returns-in-Uncaught : goal.returns-in-Uncaught
-unfolding stepped_words
-returns-in-Uncaught c = said (stepped_words c.args.text.now) c.in-Uncaught.is c.put.ensures
-
-pub returns-in-Refused : goal.returns-in-Refused
-unfolding stepped_words
-returns-in-Refused c = said (stepped_words c.args.text.now) c.in-Refused.is c.put_refused.ensures
+returns-in-Ok-Carried c = said (stepped_words c.args.text.now) c.in-Ok-Carried.is (rw c.in-Ok-Carried.is at c.in-Ok-Carried.field-0-is) (appended_on c.put-a.ensures c.put_seen.ensures)

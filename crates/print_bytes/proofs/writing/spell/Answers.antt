@@ -1,9 +1,5 @@
-use Rattle.print_bytes.specs.Spelling.{spelling_none, spelling_next, spelling_last, spelling_full}
-use borrow.Author.Rules.{rules}
+use Rattle.print_bytes.specs.Spelling.{spelling_next, spelling_last, spelling_full}
 use Rattle.print_bytes.proofs.writing.spell.Goals as goal
-
-pub loop-first-init : goal.loop-first-init
-loop-first-init c = spelling_none _ _ (search rules)
 
 pub returns-then-left-lt10 : goal.returns-then-left-lt10
 returns-then-left-lt10 c = spelling_last _ _ _ _ c.digit.ensures _ c.loop-first.invariant c.loop-first-test.true c.if-left-lt10.true

@@ -3,6 +3,3 @@ use Rattle.print_bytes.proofs.writing.spell.Given as goal
 
 abbrev pub invariant-loop-first : goal.invariant-loop-first
 invariant-loop-first l = Spelling l.n l.digits l.first l.left
-
-abbrev pub decreases-loop-first : goal.decreases-loop-first
-decreases-loop-first l = l.first

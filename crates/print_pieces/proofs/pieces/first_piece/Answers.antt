@@ -1,8 +1,9 @@
+use Rattle.std.proofs.Common.{refl}
 use Rattle.print_pieces.specs.Stages.{first_fine, first_refused}
 use Rattle.print_pieces.proofs.pieces.first_piece.Goals as goal
 
-pub returns-in_default : goal.returns-in_default
-returns-in_default c = first_fine _ _ _ _ c.check-v.ensures c.requires.0 c.in_default.is _
+pub returns-in-Ok : goal.returns-in-Ok
+returns-in-Ok c = first_fine _ _ _ _ c.in-Ok.ensures c.requires.0 refl _
 
-pub returns : goal.returns
-returns c = first_refused _ _ _ _ c.check-v.ensures c.requires.0 _ _ c.in-Refused.is c.put_refusal-length.ensures
+pub returns-in-Err : goal.returns-in-Err
+returns-in-Err c = first_refused _ _ _ _ c.in-Err.ensures c.requires.0 c.in-Err.refusal refl c.put_refusal.ensures

@@ -1,11 +1,11 @@
-use Rattle.print_pieces.specs.Stages.{wrote, wrote_none, told_as_lem}
+use Rattle.print_pieces.specs.Stages.{wrote, told_as_lem}
 use native.Mathlib.Omega.{arith}
 use mathlib.Core.Path.{ap}
 use Rattle.theory_progress.specs.RunOn.{given}
 use Rattle.print_pieces.proofs.pieces.told_piece.Goals as goal
 
 pub returns-in-Shown : goal.returns-in-Shown
-returns-in-Shown c = told_as_lem _ _ _ c.in-Shown.is (wrote _ c.put_sighting-length.ensures)
+returns-in-Shown c = told_as_lem _ _ _ c.in-Shown.is (wrote _ c.put_sighting.ensures)
 
 pub overflow_add-taken : goal.overflow_add-taken
 overflow_add-taken c = omega (arith, c.requires.1, ap given c.in-Done.is)
@@ -30,6 +30,3 @@ overflow_add-taken-in-Uncaught c = omega (arith, c.requires.1, ap given c.in-Unc
 
 pub returns-in-Uncaught : goal.returns-in-Uncaught
 returns-in-Uncaught c = told_as_lem _ _ _ c.in-Uncaught.is c.ended_piece-in-Uncaught.ensures
-
-pub returns-in-Refused : goal.returns-in-Refused
-returns-in-Refused c = told_as_lem _ _ _ c.in-Refused.is (wrote_none _ _)

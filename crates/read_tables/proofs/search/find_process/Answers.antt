@@ -1,23 +1,12 @@
-use native.Mathlib.Omega.{arith}
-use mathlib.Core.Path.{refl}
-use Rattle.read_tables.specs.Program.{processes_in}
-use Rattle.read_tables.specs.Search.{seek_start, seek_on, seek_found, seek_end, named_so}
+use Rattle.std.proofs.Common.{refl, arith}
+use Rattle.read_tables.specs.Decode.{process_at, process_entry_of}
+use Rattle.read_tables.specs.Program.{named_process, processes_in}
+use Rattle.read_tables.specs.Search.{sought_by}
 use Rattle.read_tables.proofs.search.find_process.Goals as goal
 
-pub loop-i-init : goal.loop-i-init
-loop-i-init c = seek_start _ _ _ _ (processes_in _ _)
-
-pub returns-then-has_name : goal.returns-then-has_name
-returns-then-has_name c =
-    let loop = c.loop-i in
-    seek_found _ _ _ _ loop.i loop.invariant (omega (arith, c.loop-i-test.true, c.process_count-n.ensures))
-    (named_so _ (c.declared_process-p.ensures.is _) c.has_name.ensures c.if-has_name.true)
-
-pub loop-i-preserved : goal.loop-i-preserved
-loop-i-preserved c =
-    let loop = c.loop-i in
-    seek_on _ _ _ _ loop.i _ refl loop.invariant (omega (arith, c.loop-i-test.true, c.process_count-n.ensures))
-    (named_so _ (c.declared_process-p.ensures.is _) c.has_name.ensures c.if-has_name.false)
+pub find_named-requires : goal.find_named-requires
+find_named-requires c = (omega arith, omega (arith, c.requires.area, c.requires.within))
 
 pub returns : goal.returns
-returns c = let b = c.loop-i in seek_end _ _ _ _ b.i b.invariant (omega (arith, c.loop-i-test.false, c.process_count-n.ensures))
+unfolding named_process process_at process_entry_of
+returns c = sought_by _ _ _ (λ k. refl) _ _ (processes_in _ _) c.process_count.ensures c.find_named.ensures

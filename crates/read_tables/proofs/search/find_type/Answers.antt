@@ -1,23 +1,12 @@
-use native.Mathlib.Omega.{arith}
-use mathlib.Core.Path.{refl}
-use Rattle.read_tables.specs.Program.{types_in}
-use Rattle.read_tables.specs.Search.{seek_start, seek_on, seek_found, seek_end, named_so}
+use Rattle.std.proofs.Common.{refl, arith}
+use Rattle.read_tables.specs.Decode.{type_at}
+use Rattle.read_tables.specs.Program.{named_type, types_in}
+use Rattle.read_tables.specs.Search.{sought_by}
 use Rattle.read_tables.proofs.search.find_type.Goals as goal
 
-pub loop-i-init : goal.loop-i-init
-loop-i-init c = seek_start _ _ _ _ (types_in _ _)
-
-pub returns-then-has_name : goal.returns-then-has_name
-returns-then-has_name c =
-    let loop = c.loop-i in
-    seek_found _ _ _ _ loop.i loop.invariant (omega (arith, c.loop-i-test.true, c.type_count-n.ensures))
-    (named_so _ (c.declared_type-t.ensures.is _) c.has_name.ensures c.if-has_name.true)
-
-pub loop-i-preserved : goal.loop-i-preserved
-loop-i-preserved c =
-    let loop = c.loop-i in
-    seek_on _ _ _ _ loop.i _ refl loop.invariant (omega (arith, c.loop-i-test.true, c.type_count-n.ensures))
-    (named_so _ (c.declared_type-t.ensures.is _) c.has_name.ensures c.if-has_name.false)
+pub find_named-requires : goal.find_named-requires
+find_named-requires c = (omega arith, omega (arith, c.requires.area, c.requires.within))
 
 pub returns : goal.returns
-returns c = let b = c.loop-i in seek_end _ _ _ _ b.i b.invariant (omega (arith, c.loop-i-test.false, c.type_count-n.ensures))
+unfolding named_type type_at
+returns c = sought_by _ _ _ (λ k. refl) _ _ (types_in _ _) c.type_count.ensures c.find_named.ensures

@@ -1,19 +1,20 @@
 use Rattle.read_text.proofs.NamePaths.{list_no, list_names_no, list_got}
 use Rattle.read_types.proofs.Taking.{width_pos}
+use Rattle.read_types.proofs.Taking.{left}
 use Rattle.read_text.proofs.names.name_list.Goals as goal
 
-pub returns-in_default : goal.returns-in_default
-returns-in_default c = list_no _ _ _ _ _ (width_pos c.args.opens) c.opening-opened.ensures c.in_default.is
+pub returns-in_err-i : goal.returns-in_err-i
+returns-in_err-i c = list_no _ _ _ _ _ (width_pos c.args.opens) c.opening.ensures c.in_err-i.was (left _ c.from_residual.ensures.1)
 
-pub returns-in_default-names : goal.returns-in_default-names
-returns-in_default-names c =
+pub returns-in_err-e : goal.returns-in_err-e
+returns-in_err-e c =
     list_names_no _ _ _ _ _ (width_pos c.args.opens)
-    c.opening-opened.ensures c.in-At.is
-    c.names_or_none-names.ensures c.in_default-names.is
+    c.opening.ensures c.in_ok-i.was
+    c.names_or_none.ensures c.in_err-e.was (left _ c.from_residual-in_err-e.ensures.1)
 
 pub returns : goal.returns
 returns c =
     list_got _ _ _ _ _ (width_pos c.args.opens)
-    c.opening-opened.ensures c.in-At.is
-    c.names_or_none-names.ensures
-    c.in-At-names.is
+    c.opening.ensures c.in_ok-i.was
+    c.names_or_none.ensures
+    c.in_ok-e.was

@@ -1,12 +1,13 @@
 use Rattle.read_text.proofs.SignaturePaths.{close_no, close_got}
+use Rattle.read_types.proofs.Taking.{left}
 use Rattle.read_text.proofs.signatures.close_list.Goals as goal
 
-pub returns-in_default : goal.returns-in_default
-returns-in_default c =
-    close_no _ _ _ _ c.requires.0 _ _ c.expect-closed.ensures
-    c.in_default.is c.refusal.ensures
+pub returns-in_err-d : goal.returns-in_err-d
+returns-in_err-d c =
+    close_no _ _ _ _ c.requires.0 _ _ c.expect.ensures
+    c.in_err-d.was (left _ c.from_residual.ensures.1)
 
 pub returns : goal.returns
 returns c =
-    close_got _ _ _ _ c.requires.0 _ _ c.expect-closed.ensures
-    c.in-At.is
+    close_got _ _ _ _ c.requires.0 _ _ c.expect.ensures
+    c.in_ok-d.was

@@ -3,17 +3,11 @@ use borrow.Author.Tests.{eq-eqb, ne_eqb}
 use Rattle.read_text.proofs.SignaturePaths.{some_entries, no_entries}
 use Rattle.read_text.proofs.signatures.entries_or_none.Goals as goal
 
-pub read_entries-requires : goal.read_entries-requires
-read_entries-requires c = c.requires
-
 pub returns-then-kind_at-eq-NAME : goal.returns-then-kind_at-eq-NAME
 returns-then-kind_at-eq-NAME c =
     some_entries _ _ _ _ c.requires.0 _
     (eq-eqb _ _ (sym c.kind_at.ensures ∙ c.if-kind_at-eq-NAME.true))
     c.read_entries.ensures
-
-pub close_list-requires : goal.close_list-requires
-close_list-requires c = c.requires
 
 pub returns : goal.returns
 returns c =

@@ -1,43 +1,20 @@
 use native.Mathlib.Omega.{arith}
 use Rattle.read_text.proofs.TermPaths.{cancel_no, cancel_name_no, cancel_on}
+use Rattle.read_types.proofs.Taking.{left}
 use Rattle.read_text.proofs.terms.read_cancel.Goals as goal
 
-pub returns-in_default : goal.returns-in_default
-returns-in_default c =
-    cancel_no _ _ _ _ c.requires c.process_term-term.ensures
-    c.in_default.is c.refusal.ensures
+pub returns-in_err-at : goal.returns-in_err-at
+returns-in_err-at c =
+    cancel_no _ _ _ _ c.requires c.process_term.ensures
+    c.in_err-at.was (left _ c.from_residual.ensures.1)
 
-pub returns-in_default-named : goal.returns-in_default-named
-returns-in_default-named c =
+pub returns-in_err-i : goal.returns-in_err-i
+returns-in_err-i c =
     cancel_name_no _ _ _ _ c.requires
-    c.process_term-term.ensures c.in-At.is
-    c.expect-named.ensures c.in_default-named.is c.refusal-in_default-named.ensures
-
-pub overflow_add-l : goal.overflow_add-l
-overflow_add-l c = omega (arith, c.requires, c.process_term-term.ensures.on _ _ c.in-At.is)
-
-pub term_node-n-requires : goal.term_node-n-requires
-term_node-n-requires c =
-    omega (
-      arith,
-      c.requires,
-      c.process_term-term.ensures.on _ _ c.in-At.is,
-      c.expect-named.ensures.on _ _ c.in-At-named.is,
-    )
-
-pub follow-requires-clause-room : goal.follow-requires-clause-room
-follow-requires-clause-room c =
-    omega (
-      arith,
-      c.requires,
-      c.process_term-term.ensures.on _ _ c.in-At.is,
-      c.expect-named.ensures.on _ _ c.in-At-named.is,
-    )
-
-pub follow-requires-clause-fits_term : goal.follow-requires-clause-fits_term
-follow-requires-clause-fits_term c = c.term_node-n.ensures.fits_term
+    c.process_term.ensures c.in_ok-at.was
+    c.expect.ensures c.in_err-i.was (left _ c.from_residual-in_err-i.ensures.1)
 
 pub returns : goal.returns
 returns c =
-    cancel_on _ _ _ _ c.requires c.process_term-term.ensures c.in-At.is
-    c.expect-named.ensures c.in-At-named.is c.term_node-n.ensures.value c.follow.ensures
+    cancel_on _ _ _ _ c.requires c.process_term.ensures c.in_ok-at.was
+    c.expect.ensures c.in_ok-i.was c.term_node-n.ensures.value c.follow.ensures

@@ -1,45 +1,27 @@
 use native.Mathlib.Omega.{arith}
 use Rattle.read_text.proofs.TermPaths.{fwd_no, fwd_provided_no, fwd_used_no, fwd_got}
+use Rattle.read_types.proofs.Taking.{left}
 use Rattle.read_text.proofs.terms.read_fwd.Goals as goal
 
-pub returns-in_default : goal.returns-in_default
-returns-in_default c =
-    fwd_no _ _ _ _ c.requires c.process_term-term.ensures
-    c.in_default.is c.refusal.ensures
+pub returns-in_err-at : goal.returns-in_err-at
+returns-in_err-at c =
+    fwd_no _ _ _ _ c.requires c.process_term.ensures
+    c.in_err-at.was (left _ c.from_residual.ensures.1)
 
-pub returns-in_default-provided : goal.returns-in_default-provided
-returns-in_default-provided c =
+pub returns-in_err-i : goal.returns-in_err-i
+returns-in_err-i c =
     fwd_provided_no _ _ _ _ c.requires
-    c.process_term-term.ensures c.in-At.is
-    c.expect-provided.ensures c.in_default-provided.is c.refusal-in_default-provided.ensures
+    c.process_term.ensures c.in_ok-at.was
+    c.expect.ensures c.in_err-i.was (left _ c.from_residual-in_err-i.ensures.1)
 
-pub returns-in_default-used : goal.returns-in_default-used
-returns-in_default-used c =
-    fwd_used_no _ _ _ _ c.requires c.process_term-term.ensures c.in-At.is
-    c.expect-provided.ensures c.in-At-provided.is c.expect-used.ensures
-    c.in_default-used.is c.refusal-in_default-used.ensures
-
-pub term_node-n-requires : goal.term_node-n-requires
-term_node-n-requires c =
-    omega (
-      arith,
-      c.requires,
-      c.process_term-term.ensures.on _ _ c.in-At.is,
-      c.expect-provided.ensures.on _ _ c.in-At-provided.is,
-      c.expect-used.ensures.on _ _ c.in-At-used.is,
-    )
-
-pub put_term-requires-clause-area : goal.put_term-requires-clause-area
-put_term-requires-clause-area c = omega (arith, c.requires, c.process_term-term.ensures.on _ _ c.in-At.is)
-
-pub put_term-requires-clause-fits_term : goal.put_term-requires-clause-fits_term
-put_term-requires-clause-fits_term c = c.term_node-n.ensures.fits_term
-
-pub overflow_add-l : goal.overflow_add-l
-overflow_add-l c = omega (arith, c.requires, c.process_term-term.ensures.on _ _ c.in-At.is)
+pub returns-in_err-j : goal.returns-in_err-j
+returns-in_err-j c =
+    fwd_used_no _ _ _ _ c.requires c.process_term.ensures c.in_ok-at.was
+    c.expect.ensures c.in_ok-i.was c.expect-2.ensures
+    c.in_err-j.was (left _ c.from_residual-in_err-j.ensures.1)
 
 pub returns : goal.returns
 returns c =
-    fwd_got _ _ _ _ c.requires c.process_term-term.ensures c.in-At.is
-    c.expect-provided.ensures c.in-At-provided.is c.expect-used.ensures
-    c.in-At-used.is c.term_node-n.ensures.value c.put_term.ensures
+    fwd_got _ _ _ _ c.requires c.process_term.ensures c.in_ok-at.was
+    c.expect.ensures c.in_ok-i.was c.expect-2.ensures
+    c.in_ok-j.was c.term_node-n.ensures.value c.put_term.ensures

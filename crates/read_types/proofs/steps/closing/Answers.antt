@@ -1,12 +1,13 @@
 use mathlib.Core.Path.{refl}
 use Rattle.read_types.specs.Filling.{not_read, not_closed, read}
+use Rattle.read_types.proofs.Taking.{left}
 use Rattle.read_types.proofs.steps.closing.Goals as goal
 
-pub returns-in_default : goal.returns-in_default
-returns-in_default c = not_read c.in_default.is refl
+pub returns-in_err-e : goal.returns-in_err-e
+returns-in_err-e c = not_read c.in_err-e.was (left _ c.from_residual.ensures.1)
 
-pub returns-in_default-closed : goal.returns-in_default-closed
-returns-in_default-closed c = not_closed c.in-Got.is c.expect-closed.ensures c.in_default-closed.is c.refusal.ensures
+pub returns-in_err-f : goal.returns-in_err-f
+returns-in_err-f c = not_closed c.in_ok-e.was c.expect.ensures c.in_err-f.was (left _ c.from_residual-in_err-f.ensures.1)
 
 pub returns : goal.returns
-returns c = read c.in-Got.is c.expect-closed.ensures c.in-At.is refl
+returns c = read c.in_ok-e.was c.expect.ensures c.in_ok-f.was refl

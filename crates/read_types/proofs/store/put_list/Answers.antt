@@ -1,13 +1,19 @@
-use native.Mathlib.Omega.{arith}
-use Prim.Native.Nat.{◌-◌}
-use Rattle.read_types.proofs.Listing.{putting_start, putting_on, putting_end}
+use Rattle.std.proofs.Common.{ℕ, ◌-◌, ◌≡◌, sym, ◌∙◌, arith}
+use Rattle.read_types.proofs.Filled.{same, ◌upon◌, kept_set}
+use Rattle.read_types.proofs.Listing.{put_next, list_none}
 use Rattle.read_types.proofs.store.put_list.Goals as goal
 
 pub loop-i-init : goal.loop-i-init
-loop-i-init c = putting_start
+loop-i-init c = record { words = search arith; stays = same }
 
 pub loop-i-preserved : goal.loop-i-preserved
-loop-i-preserved c = putting_on c.loop-i.invariant (c.loop-i.i - 1) (omega arith) c.requires.2
+loop-i-preserved c = record {
+  words = put_next c.args.kept.now c.args.n c.args.at c.loop-i.i c.loop-i.scratch (omega arith) c.loop-i.invariant.words;
+  stays = kept_set _ _ _ (omega arith) upon c.loop-i.invariant.stays;
+}
 
 pub returns : goal.returns
-returns c = putting_end c.loop-i.invariant (omega arith)
+returns c = record {
+  words = sym (list_none c.args.kept.now (c.args.n - c.loop-i.i) _ c.loop-i.scratch (omega arith)) ∙ c.loop-i.invariant.words;
+  kept = c.loop-i.invariant.stays;
+}

@@ -1,25 +1,10 @@
 use native.Mathlib.Omega.{arith}
+use Rattle.read_types.proofs.Taking.{left}
 use Rattle.read_types.proofs.TypePaths.{name_no, name_got}
 use Rattle.read_types.proofs.types.name_type.Goals as goal
 
-pub returns-in_default : goal.returns-in_default
-returns-in_default c =
-    name_no _ _ _ _ c.requires c.type_term-taken.ensures
-    c.in_default.is c.refusal.ensures
-
-pub put_node-requires : goal.put_node-requires
-put_node-requires c =
-    omega (
-      arith,
-      c.requires,
-      c.type_term-taken.ensures.on _ _
-          c.in-At.is,
-    )
-
-pub overflow_add-l : goal.overflow_add-l
-overflow_add-l c = omega (arith, c.requires)
+pub returns-in_err-i : goal.returns-in_err-i
+returns-in_err-i c = name_no _ _ _ _ c.requires c.type_term.ensures c.in_err-i.was (left _ c.from_residual.ensures.1)
 
 pub returns : goal.returns
-returns c =
-    name_got _ _ _ _ c.requires c.type_term-taken.ensures c.in-At.is
-    c.put_node.ensures
+returns c = name_got _ _ _ _ c.requires c.type_term.ensures c.in_ok-i.was c.append_node.ensures

@@ -1,14 +1,6 @@
-use Rattle.run_alone.specs.Calling.{enters_none, enters_found}
+use Rattle.run_alone.specs.Calling.{enters_found}
 use Rattle.run_alone.specs.Parting.{end_found_lem}
 use Rattle.run_alone.proofs.calling.enter_end.Goals as goal
-
-pub find_end-f-requires : goal.find_end-f-requires
-find_end-f-requires c = c.requires.held_in.0.many
-
-pub returns-in_default : goal.returns-in_default
-returns-in_default c =
-    enters_none c.args.text.now c.args.scratch.now c.args.h c.args.r c.args.a c.args.at c.args.side c.args.node c.find_end-f.ensures c.requires.held_in.1
-    c.in_default.is
 
 pub bring_end-requires : goal.bring_end-requires
 bring_end-requires c = (
@@ -16,11 +8,10 @@ bring_end-requires c = (
   c.requires.count_lt_held_limit.1,
   c.requires.count_lt_held_limit.2,
   c.requires.count_lt_held_limit.3,
-  (end_found_lem {w = c.args.scratch.now} c.find_end-f.ensures c.in-Found.is
-      c.requires.held_in.0).0.bounds.channel,
+  (end_found_lem {w = c.args.scratch.now} c.find_end.ensures c.in-Some.is c.requires.held_in.0).0.bounds.channel,
 )
 
-pub returns : goal.returns
-returns c =
+pub returns-in-Some : goal.returns-in-Some
+returns-in-Some c =
     enters_found c.args.text.now c.args.scratch.now c.args.h c.args.r c.args.a c.args.at c.args.side c.args.node
-    c.find_end-f.ensures c.requires.held_in.1 _ _ c.in-Found.is c.requires.held_in.2 c.bring_end.ensures
+    c.find_end.ensures c.requires.held_in.1 _ _ c.in-Some.is c.requires.held_in.2 c.bring_end.ensures

@@ -5,19 +5,11 @@ use Rattle.read_tables.specs.Access.{node_there}
 use Rattle.check_contexts.specs.Walks.{walked}
 use Rattle.run_alone.proofs.calling.enter_list.Goals as goal
 
-pub loop-left-init : goal.loop-left-init
-loop-left-init c = entering_start c.args.text.now c.args.scratch.now c.args.h c.args.r c.args.from c.args.side c.args.first c.args.n c.requires.tables.1 c.requires.held_in.1
-
 pub returns-in_default-clause-enters_list : goal.returns-in_default-clause-enters_list
 returns-in_default-clause-enters_list c =
     let loop = c.loop-left in
     let ended = entering_ended c.args.text.now c.args.scratch.now c.args.h c.args.r c.args.from c.args.side c.args.first c.args.n loop.q
-    loop.at loop.i loop.left loop.invariant _ (sym c.next_argument-a.ensures.value ∙ c.in_default.is) in ended
-
-pub returns-in_default-clause-walking : goal.returns-in_default-clause-walking
-returns-in_default-clause-walking c =
-    let loop = c.loop-left in
-    walked loop.invariant.walk
+    loop.at loop.i loop.left loop.invariant _ (sym c.next_argument.ensures.value ∙ c.in_default.is) in ended
 
 pub entry-e-requires : goal.entry-e-requires
 entry-e-requires c =
@@ -26,9 +18,6 @@ entry-e-requires c =
       entering_there c.args.text.now c.args.scratch.now c.args.h c.args.r c.args.from c.args.side c.args.first
           c.args.n loop.q loop.at loop.i loop.left loop.invariant c.loop-left-test.true c.requires.tables.0,
     )
-
-pub overflow_cast-e : goal.overflow_cast-e
-overflow_cast-e c = omega (arith, c.entry-e.ensures.at)
 
 pub overflow_cast-e-in-loop-left : goal.overflow_cast-e-in-loop-left
 overflow_cast-e-in-loop-left c =
@@ -74,25 +63,15 @@ overflow_add-i c =
           loop.q loop.at loop.i loop.left loop.invariant c.loop-left-test.true c.requires.tables.0,
     )
 
-pub overflow_sub-left : goal.overflow_sub-left
-overflow_sub-left c = omega (arith, c.loop-left-test.true)
-
-pub loop-left-smaller : goal.loop-left-smaller
-loop-left-smaller c = omega (arith, c.loop-left-test.true)
-
 pub loop-left-preserved : goal.loop-left-preserved
 loop-left-preserved c =
     let entry = c.entry-e in
     let loop = c.loop-left in
     entering_on c.args.text.now c.args.scratch.now c.args.h c.args.r c.args.from c.args.side
     c.args.first c.args.n loop.q loop.at loop.i loop.left loop.invariant c.loop-left-test.true entry.result entry.ensures _ _
-    _ (sym c.next_argument-a.ensures.value ∙ c.in-Name.is) c.enter_end-q.ensures
+    _ (sym c.next_argument.ensures.value ∙ c.in-Name.is) c.enter_end-q.ensures
 
 pub returns-clause-enters_list : goal.returns-clause-enters_list
 returns-clause-enters_list c =
     let done = entering_done c.args.text.now c.args.scratch.now c.args.h c.args.r c.args.from c.args.side c.args.first c.args.n c.loop-left.q c.loop-left.at
     c.loop-left.i c.loop-left.left c.loop-left.invariant c.loop-left-test.false in done
-
-pub returns-clause-walking : goal.returns-clause-walking
-returns-clause-walking c =
-    walked c.loop-left.invariant.walk

@@ -5,22 +5,10 @@ use Rattle.run_words.specs.Values.{running_on}
 use mathlib.Core.Path.{refl}
 use Rattle.run_alone.proofs.cancelling.cancel.Goals as goal
 
-pub find_end-f-requires : goal.find_end-f-requires
-find_end-f-requires c = c.requires.stands_at.is.held.many
-
 pub returns-in_default : goal.returns-in_default
 returns-in_default c =
-    cancels_nothing c.args.text.now c.args.scratch.now c.args.run.now c.args.place c.args.p c.args.c c.args.pointer c.find_end-f.ensures
+    cancels_nothing c.args.text.now c.args.scratch.now c.args.run.now c.args.place c.args.p c.args.c c.args.pointer c.find_end.ensures
     c.in_default.is
-
-pub drop_end-held-requires : goal.drop_end-held-requires
-drop_end-held-requires c = c.requires.stands_at.is.held.many
-
-pub part-requires-clause-run_of : goal.part-requires-clause-run_of
-part-requires-clause-run_of c = c.requires.run_of
-
-pub part-requires-clause-place_in_bounds : goal.part-requires-clause-place_in_bounds
-part-requires-clause-place_in_bounds c = c.requires.stands_at.below
 
 pub part-requires-clause-process_of : goal.part-requires-clause-process_of
 part-requires-clause-process_of c =
@@ -29,10 +17,10 @@ part-requires-clause-process_of c =
 
 pub part-requires-clause-side_lt_side_radix : goal.part-requires-clause-side_lt_side_radix
 part-requires-clause-side_lt_side_radix c =
-    (end_found_lem {w = c.args.scratch.now} c.find_end-f.ensures
-    c.in-Found.is c.requires.stands_at.is.held).1
+    (end_found_lem {w = c.args.scratch.now} c.find_end.ensures
+    c.in-Some.is c.requires.stands_at.is.held).1
 
 pub returns : goal.returns
 returns c =
     cancels c.args.text.now c.args.scratch.now c.args.run.now _ c.args.place c.args.p c.args.c c.args.pointer
-    c.find_end-f.ensures c.in-Found.is c.drop_end-held.ensures c.part.ensures
+    c.find_end.ensures c.in-Some.is c.drop_end-held.ensures c.part.ensures

@@ -2,48 +2,30 @@ use native.Mathlib.Omega.{arith}
 use Rattle.run_alone.specs.Spawning.{no_room, fresh_small, no_channel, a_channel}
 use Rattle.run_alone.proofs.spawning.spawn.Goals as goal
 
-pub count-requires : goal.count-requires
-count-requires c = c.requires.run_of.wide
-
 pub returns-then-count-ge-PROCESS_PLACES : goal.returns-then-count-ge-PROCESS_PLACES
 returns-then-count-ge-PROCESS_PLACES c = no_room c.args.text.now c.args.scratch.now c.args.run.now c.args.place c.args.p c.args.m (omega (arith, c.if-count-ge-PROCESS_PLACES.true, c.count.ensures))
 
-pub fresh_channel-f-requires-clause-run_words_in_bounds : goal.fresh_channel-f-requires-clause-run_words_in_bounds
-fresh_channel-f-requires-clause-run_words_in_bounds c = c.requires.run_of.wide
-
-pub fresh_channel-f-requires-clause-bounded : goal.fresh_channel-f-requires-clause-bounded
-fresh_channel-f-requires-clause-bounded c = c.requires.run_of.bounds
-
 pub returns-in_default : goal.returns-in_default
 returns-in_default c =
-    no_channel c.args.text.now c.args.scratch.now c.args.run.now c.args.place c.args.p c.args.m c.fresh_channel-f.ensures
+    no_channel c.args.text.now c.args.scratch.now c.args.run.now c.args.place c.args.p c.args.m c.fresh_channel.ensures
     (omega (arith, c.if-count-ge-PROCESS_PLACES.false, c.count.ensures)) c.in_default.is
 
 pub overflow_cast-k : goal.overflow_cast-k
 overflow_cast-k c =
     omega (
       arith,
-      fresh_small c.args.text.now c.args.scratch.now c.args.run.now c.args.place c.args.p c.args.m c.fresh_channel-f.ensures
-          c.in-At.is,
+      fresh_small c.args.text.now c.args.scratch.now c.args.run.now c.args.place c.args.p c.args.m c.fresh_channel.ensures
+          c.in-Some.is,
     )
-
-pub spawn_on-requires-clause-run_of : goal.spawn_on-requires-clause-run_of
-spawn_on-requires-clause-run_of c = c.requires.run_of
-
-pub spawn_on-requires-clause-stands_at : goal.spawn_on-requires-clause-stands_at
-spawn_on-requires-clause-stands_at c = c.requires.stands_at
-
-pub spawn_on-requires-clause-spawn_in : goal.spawn_on-requires-clause-spawn_in
-spawn_on-requires-clause-spawn_in c = c.requires.spawn_in
 
 pub spawn_on-requires-clause-run_len_bound : goal.spawn_on-requires-clause-run_len_bound
 spawn_on-requires-clause-run_len_bound c = (
   (omega (arith, c.if-count-ge-PROCESS_PLACES.false, c.count.ensures)),
   fresh_small c.args.text.now c.args.scratch.now
-      c.args.run.now c.args.place c.args.p c.args.m c.fresh_channel-f.ensures c.in-At.is,
+      c.args.run.now c.args.place c.args.p c.args.m c.fresh_channel.ensures c.in-Some.is,
 )
 
 pub returns : goal.returns
 returns c =
-    a_channel c.args.text.now c.args.scratch.now c.args.run.now c.args.place c.args.p c.args.m c.fresh_channel-f.ensures
-    (omega (arith, c.if-count-ge-PROCESS_PLACES.false, c.count.ensures)) c.in-At.is c.spawn_on.ensures
+    a_channel c.args.text.now c.args.scratch.now c.args.run.now c.args.place c.args.p c.args.m c.fresh_channel.ensures
+    (omega (arith, c.if-count-ge-PROCESS_PLACES.false, c.count.ensures)) c.in-Some.is c.spawn_on.ensures

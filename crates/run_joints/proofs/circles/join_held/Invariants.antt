@@ -1,5 +1,3 @@
-use Prim.Native.Nat.{◌-◌}
-use mathlib.Core.Path.{◌≡◌}
 use lib.ListN.{drop}
 use Rattle.run_words.specs.Raw.{raw_in}
 use Rattle.run_words.specs.Values.{held_in}
@@ -8,7 +6,4 @@ use Rattle.run_joints.proofs.Joining.{Left}
 use Rattle.run_joints.proofs.circles.join_held.Given as goal
 
 abbrev pub invariant-loop-k : goal.invariant-loop-k
-invariant-loop-k l = (l.n ≡ l.h.count) × Left l.initial.labels l.labels (held_joints (raw_in l.run) l.i (held_in l.h)) (held_joints (raw_in l.run) l.i (drop l.k (held_in l.h)))
-
-abbrev pub decreases-loop-k : goal.decreases-loop-k
-decreases-loop-k l = l.n - l.k
+invariant-loop-k l = Left l.initial.labels l.labels (held_joints (raw_in l.run) l.i (held_in l.h)) (held_joints (raw_in l.run) l.i (drop l.k (held_in l.h)))

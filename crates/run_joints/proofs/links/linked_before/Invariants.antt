@@ -1,4 +1,3 @@
-use Prim.Native.Nat.{◌≤◌}
 use mathlib.Core.Path.{◌≡◌}
 use Rattle.run_words.specs.Raw.{raw_in}
 use Rattle.calculus.specs.Named.{any_of}
@@ -7,7 +6,4 @@ use Rattle.run_joints.specs.Links.{links_to}
 use Rattle.run_joints.proofs.links.linked_before.Given as goal
 
 abbrev pub invariant-loop-i : goal.invariant-loop-i
-invariant-loop-i l = (l.i ≤ l.n) × (any_of (links_to l.h) (before l.n (raw_in l.run).processes) ≡ any_of (links_to l.h) (before l.i (raw_in l.run).processes))
-
-abbrev pub decreases-loop-i : goal.decreases-loop-i
-decreases-loop-i l = l.i
+invariant-loop-i l = any_of (links_to l.h) (before l.n (raw_in l.run).processes) ≡ any_of (links_to l.h) (before l.i (raw_in l.run).processes)

@@ -1,20 +1,8 @@
 use native.Mathlib.Omega.{arith}
 use borrow.Author.Tests.{lt-ltb, le-ltb}
-use Rattle.run_joints.specs.Tests.{each_start, each_passed, each_failed, each_end}
+use Rattle.run_joints.specs.Tests.{each_passed, each_failed, each_end}
 use Rattle.run_joints.specs.Numbers.{answers_given}
 use Rattle.run_joints.proofs.numbers.numbers_given.Goals as goal
-
-pub loop-k-init : goal.loop-k-init
-loop-k-init c = each_start c.outside_count-n.ensures
-
-pub outside_at-o-requires-clause-run_words_in_bounds : goal.outside_at-o-requires-clause-run_words_in_bounds
-outside_at-o-requires-clause-run_words_in_bounds c = c.requires.run_words_in_bounds
-
-pub outside_at-o-requires-clause-bounded : goal.outside_at-o-requires-clause-bounded
-outside_at-o-requires-clause-bounded c = c.requires.bounded
-
-pub outside_at-o-requires-clause-k_in_bounds : goal.outside_at-o-requires-clause-k_in_bounds
-outside_at-o-requires-clause-k_in_bounds c = omega (arith, c.loop-k.invariant.many)
 
 pub returns-then-g-o : goal.returns-then-g-o
 returns-then-g-o c =

@@ -7,19 +7,7 @@ use Rattle.run_messages.proofs.meeting.go_on.Goals as goal
 pub overflow_cast-r : goal.overflow_cast-r
 overflow_cast-r c = omega (arith, pointer_small c.args.text.now c.args.scratch.now _ c.requires.run_of.tables c.requires.process_in.0)
 
-pub store_both-requires-clause-run_of : goal.store_both-requires-clause-run_of
-store_both-requires-clause-run_of c = c.requires.run_of
-
-pub store_both-requires-clause-place_in_bounds : goal.store_both-requires-clause-place_in_bounds
-store_both-requires-clause-place_in_bounds c = let r = c.requires.receiver_in.stands in (c.requires.sending_in.stands.below, r.below)
-
-pub store_both-requires-clause-process_of : goal.store_both-requires-clause-process_of
-store_both-requires-clause-process_of c = c.requires.sending_in.after
-
 pub store_both-requires-clause-process_of_2 : goal.store_both-requires-clause-process_of_2
 store_both-requires-clause-process_of_2 c =
     let r = c.requires.receiver_in.stands in runs_on c.requires.run_of.tables (running_on c.args.pointer c.args.held c.args.to.process) refl r.is.link
     c.requires.process_in.0 c.requires.process_in.1
-
-pub returns : goal.returns
-returns c = record { is = (refl, c.store_both.ensures) }

@@ -1,18 +1,6 @@
 use Rattle.run_messages.specs.Meeting.{parts_at, hears_close, hears_kind_close}
 use Rattle.run_messages.proofs.meeting.hear_close.Goals as goal
 
-pub drop_end-held-requires : goal.drop_end-held-requires
-drop_end-held-requires c = c.requires.receiver_in.stands.is.held.many
-
-pub go_on-requires-clause-run_of : goal.go_on-requires-clause-run_of
-go_on-requires-clause-run_of c = c.requires.run_of
-
-pub go_on-requires-clause-sending_in : goal.go_on-requires-clause-sending_in
-go_on-requires-clause-sending_in c = c.requires.sending_in
-
-pub go_on-requires-clause-receiver_in : goal.go_on-requires-clause-receiver_in
-go_on-requires-clause-receiver_in c = let r = c.requires.receiver_in in r
-
 pub go_on-requires-clause-process_in : goal.go_on-requires-clause-process_in
 go_on-requires-clause-process_in c = let r = c.requires.receiver_in in (parts_at r c.requires.kind_value.1, c.drop_end-held.ensures.fits c.args.scratch.now r.stands.is.held)
 

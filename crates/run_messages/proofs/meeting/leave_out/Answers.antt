@@ -3,15 +3,6 @@ use Rattle.run_words.specs.Raw.{link_of}
 use Rattle.run_messages.specs.Meeting.{caught_on, stand_on}
 use Rattle.run_messages.proofs.meeting.leave_out.Goals as goal
 
-pub sender_goes_on-requires-clause-run_of : goal.sender_goes_on-requires-clause-run_of
-sender_goes_on-requires-clause-run_of c = c.requires.run_of
-
-pub sender_goes_on-requires-clause-sending_in : goal.sender_goes_on-requires-clause-sending_in
-sender_goes_on-requires-clause-sending_in c = c.requires.sending_in
-
-pub act_as_raise-requires-clause-run_of : goal.act_as_raise-requires-clause-run_of
-act_as_raise-requires-clause-run_of c = c.sender_goes_on.ensures.run
-
 pub act_as_raise-requires-clause-place_in_bounds : goal.act_as_raise-requires-clause-place_in_bounds
 act_as_raise-requires-clause-place_in_bounds c =
     let a = c.args in

@@ -3,45 +3,8 @@ use Rattle.run_messages.specs.Meeting.{first_set, first_many, second_of, both_se
 use Rattle.run_alone.specs.Changes.{bounded_of}
 use Rattle.run_messages.proofs.meeting.store_both.Goals as goal
 
-pub store-requires-clause-run_words_in_bounds : goal.store-requires-clause-run_words_in_bounds
-store-requires-clause-run_words_in_bounds c = c.requires.run_of.wide
-
-pub store-requires-clause-bounded : goal.store-requires-clause-bounded
-store-requires-clause-bounded c = c.requires.run_of.bounds
-
-pub store-requires-clause-i_in_bounds : goal.store-requires-clause-i_in_bounds
-store-requires-clause-i_in_bounds c = c.requires.place_in_bounds.0
-
 pub store-requires-clause-bounded_process : goal.store-requires-clause-bounded_process
 store-requires-clause-bounded_process c = bounded_of c.args.text.now c.args.scratch.now c.requires.process_of
-
-pub store-requires-2-clause-run_words_in_bounds : goal.store-requires-2-clause-run_words_in_bounds
-store-requires-2-clause-run_words_in_bounds c =
-    let text = c.args.text.now in
-    let scratch = c.args.scratch.now in
-    let run = c.args.run.now in
-    let place = c.args.place in
-    let j = c.args.j in
-    let q = c.args.q in
-    let r = c.args.r in (first_set text scratch run _ c.requires.run_of place j q r c.requires.process_of c.requires.process_of_2 c.store.ensures.changed c.store.ensures.bounded_2).run.wide
-
-pub store-requires-2-clause-bounded : goal.store-requires-2-clause-bounded
-store-requires-2-clause-bounded c =
-    c.store.ensures.bounded_2
-
-pub store-requires-2-clause-i_in_bounds : goal.store-requires-2-clause-i_in_bounds
-store-requires-2-clause-i_in_bounds c =
-    let text = c.args.text.now in
-    let scratch = c.args.scratch.now in
-    let run = c.args.run.now in
-    let place = c.args.place in
-    let j = c.args.j in
-    let q = c.args.q in
-    let r = c.args.r in omega (
-      arith,
-      first_many text scratch run _ c.requires.run_of place j q r c.requires.process_of c.requires.process_of_2 c.store.ensures.changed c.store.ensures.bounded_2,
-      c.requires.place_in_bounds.1,
-    )
 
 pub store-requires-2-clause-bounded_process : goal.store-requires-2-clause-bounded_process
 store-requires-2-clause-bounded_process c =

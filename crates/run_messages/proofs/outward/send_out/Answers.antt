@@ -4,20 +4,8 @@ use Rattle.run_alone.specs.Parting.{outside_there_below}
 use Rattle.run_messages.specs.Room.{outside_few}
 use Rattle.run_messages.proofs.outward.send_out.Goals as goal
 
-pub outside_at-o-requires-clause-run_words_in_bounds : goal.outside_at-o-requires-clause-run_words_in_bounds
-outside_at-o-requires-clause-run_words_in_bounds c = c.requires.run_of.wide
-
-pub outside_at-o-requires-clause-bounded : goal.outside_at-o-requires-clause-bounded
-outside_at-o-requires-clause-bounded c = c.requires.run_of.bounds
-
 pub outside_at-o-requires-clause-k_in_bounds : goal.outside_at-o-requires-clause-k_in_bounds
 outside_at-o-requires-clause-k_in_bounds c = outside_there_below c.args.text.now c.args.scratch.now c.args.run.now c.args.sent.over c.args.k c.requires.over_value
-
-pub pass_out-requires-clause-run_of : goal.pass_out-requires-clause-run_of
-pass_out-requires-clause-run_of c = c.requires.run_of
-
-pub pass_out-requires-clause-sending_in : goal.pass_out-requires-clause-sending_in
-pass_out-requires-clause-sending_in c = c.requires.sending_in
 
 pub pass_out-requires-clause-outside_in : goal.pass_out-requires-clause-outside_in
 pass_out-requires-clause-outside_in c =
@@ -27,31 +15,19 @@ pass_out-requires-clause-outside_in c =
 pub pass_out-requires-clause-run_len_bound : goal.pass_out-requires-clause-run_len_bound
 pass_out-requires-clause-run_len_bound c = outside_few c.args.text.now c.args.scratch.now c.args.run.now c.requires.well_formed
 
-pub pass_out-requires-clause-kind_value : goal.pass_out-requires-clause-kind_value
-pass_out-requires-clause-kind_value c = c.if-n-eq-SEND_CHANNEL.true
-
-pub returns-then-n-eq-SEND_CHANNEL : goal.returns-then-n-eq-SEND_CHANNEL
-returns-then-n-eq-SEND_CHANNEL c =
-    sends_out c.args.text.now c.args.scratch.now c.args.run.now c.args.sent _
-    (out_number c.args.text.now c.args.scratch.now c.args.run.now c.args.sent.over c.args.k c.outside_at-o.result
-    (sym c.requires.over_value) c.outside_at-o.ensures.k_value) c.pass_out.ensures
-
-pub send_shown-requires-clause-run_of : goal.send_shown-requires-clause-run_of
-send_shown-requires-clause-run_of c = c.requires.run_of
-
-pub send_shown-requires-clause-sending_in : goal.send_shown-requires-clause-sending_in
-send_shown-requires-clause-sending_in c = c.requires.sending_in
-
 pub send_shown-requires-clause-outside_in : goal.send_shown-requires-clause-outside_in
 send_shown-requires-clause-outside_in c =
     outside_own c.args.text.now c.args.scratch.now c.args.run.now c.args.sent.over c.args.k _ c.requires.run_of (sym c.requires.over_value)
     c.outside_at-o.ensures.k_value
 
-pub send_shown-requires-clause-fact : goal.send_shown-requires-clause-fact
-send_shown-requires-clause-fact c = c.if-n-eq-SEND_CHANNEL.false
+pub returns-then-sent-eq-SEND_CHANNEL : goal.returns-then-sent-eq-SEND_CHANNEL
+returns-then-sent-eq-SEND_CHANNEL c =
+    sends_out c.args.text.now c.args.scratch.now c.args.run.now c.args.sent _
+    (out_number c.args.text.now c.args.scratch.now c.args.run.now c.args.sent.over c.args.k c.outside_at-o.result
+    (sym c.requires.over_value) c.outside_at-o.ensures.k_value) c.pass_out.ensures
 
-pub returns : goal.returns
-returns c =
+pub returns-else-sent-eq-SEND_CHANNEL : goal.returns-else-sent-eq-SEND_CHANNEL
+returns-else-sent-eq-SEND_CHANNEL c =
     sends_out c.args.text.now c.args.scratch.now c.args.run.now c.args.sent _
     (out_number c.args.text.now c.args.scratch.now c.args.run.now c.args.sent.over c.args.k c.outside_at-o.result
     (sym c.requires.over_value) c.outside_at-o.ensures.k_value) c.send_shown.ensures

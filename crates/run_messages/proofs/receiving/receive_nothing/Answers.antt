@@ -3,17 +3,6 @@ use Rattle.run_messages.specs.Receiving.{receives_nothing}
 use Rattle.run_alone.specs.Parting.{folds}
 use Rattle.run_messages.proofs.receiving.receive_nothing.Goals as goal
 
-pub drop_end-held-requires : goal.drop_end-held-requires
-drop_end-held-requires c = c.requires.stands_at.is.held.many
-
-pub start_handler-requires-clause-run_of : goal.start_handler-requires-clause-run_of
-start_handler-requires-clause-run_of c =
-    c.requires.run_of
-
-pub start_handler-requires-clause-place_in_bounds : goal.start_handler-requires-clause-place_in_bounds
-start_handler-requires-clause-place_in_bounds c =
-    let there = c.requires.stands_at in there.below
-
 pub start_handler-requires-clause-process_of : goal.start_handler-requires-clause-process_of
 start_handler-requires-clause-process_of c =
     let drop_end = c.drop_end-held in

@@ -6,27 +6,11 @@ use Rattle.run_words.specs.Values.{running_on}
 use mathlib.Core.Path.{refl}
 use Rattle.run_messages.proofs.sending.send.Goals as goal
 
-pub find_end-f-requires : goal.find_end-f-requires
-find_end-f-requires c = c.requires.stands_at.is.held.many
-
 pub returns-in_default : goal.returns-in_default
-returns-in_default c = sends_nothing c.args.text.now c.args.scratch.now c.args.run.now c.args.place c.args.p c.args.n c.find_end-f.ensures c.in_default.is
-
-pub after_send-held-requires-clause-tables : goal.after_send-held-requires-clause-tables
-after_send-held-requires-clause-tables c = c.requires.run_of.tables
-
-pub after_send-held-requires-clause-held_in : goal.after_send-held-requires-clause-held_in
-after_send-held-requires-clause-held_in c = c.requires.stands_at.is.held
-
-pub after_send-held-requires-clause-send_unit_kind_le_kind : goal.after_send-held-requires-clause-send_unit_kind_le_kind
-after_send-held-requires-clause-send_unit_kind_le_kind c = (c.requires.send_node.0.low, c.requires.send_node.0.high)
+returns-in_default c = sends_nothing c.args.text.now c.args.scratch.now c.args.run.now c.args.place c.args.p c.args.n c.find_end.ensures c.in_default.is
 
 pub overflow_cast-after : goal.overflow_cast-after
 overflow_cast-after c = omega (arith, pointer_small c.args.text.now c.args.scratch.now _ c.requires.run_of.tables c.requires.send_node.1)
-
-pub deliver-requires-clause-run_of : goal.deliver-requires-clause-run_of
-deliver-requires-clause-run_of c =
-    c.requires.run_of
 
 pub deliver-requires-clause-sending_in : goal.deliver-requires-clause-sending_in
 deliver-requires-clause-sending_in c =
@@ -39,15 +23,11 @@ deliver-requires-clause-sending_in c =
 
 pub deliver-requires-clause-side_lt_side_radix : goal.deliver-requires-clause-side_lt_side_radix
 deliver-requires-clause-side_lt_side_radix c =
-    (end_found_lem {w = c.args.scratch.now} c.find_end-f.ensures c.in-Found.is
+    (end_found_lem {w = c.args.scratch.now} c.find_end.ensures c.in-Some.is
     c.requires.stands_at.is.held).1
-
-pub deliver-requires-clause-well_formed : goal.deliver-requires-clause-well_formed
-deliver-requires-clause-well_formed c =
-    c.requires.well_formed
 
 pub returns : goal.returns
 returns c =
     sends_on c.args.text.now c.args.scratch.now c.args.run.now c.args.place c.args.p c.args.n
-    c.find_end-f.ensures c.in-Found.is
+    c.find_end.ensures c.in-Some.is
     c.after_send-held.ensures c.deliver.ensures

@@ -1,9 +1,9 @@
 use native.Mathlib.Omega.{arith}
+use Rattle.std.specs.Prelude.{None}
 use mathlib.Core.Path.{refl, sym, ◌∙◌, ap}
 use Rattle.notation.specs.Bytes.{same}
 use Rattle.notation.specs.Token.{name_at}
 use Rattle.run_words.specs.ListLaws.{scan_end}
-use Rattle.notation.specs.declared.reading.Found.TheVariants.{Nothing}
 use Rattle.run_words.specs.Operations.{first_step}
 use Rattle.run_words.proofs.Searches.{held_there, length_there, stops_here, goes_on_lem}
 use Rattle.check_contexts.specs.Held.{is_named}
@@ -14,10 +14,10 @@ pub loop-k-init : goal.loop-k-init
 loop-k-init c = (c.held_count-n.ensures, c.name_length-m.ensures, refl)
 
 pub held_end-e-requires-clause-run_words_in_bounds : goal.held_end-e-requires-clause-run_words_in_bounds
-held_end-e-requires-clause-run_words_in_bounds c = let l = c.loop-k.invariant.0 in (c.requires.run_words_in_bounds.0, c.requires.run_words_in_bounds.1, omega (arith, c.loop-k-test.true, l, c.requires.i_bound))
+held_end-e-requires-clause-run_words_in_bounds c = (c.requires.run_words_in_bounds.0, c.requires.run_words_in_bounds.1, omega arith)
 
 pub held_end-e-requires-clause-k_bound : goal.held_end-e-requires-clause-k_bound
-held_end-e-requires-clause-k_bound c = let l = c.loop-k.invariant.0 in omega (arith, c.loop-k-test.true, l)
+held_end-e-requires-clause-k_bound c = omega arith
 
 pub has_name-requires : goal.has_name-requires
 has_name-requires c = c.loop-k.invariant.1
@@ -41,4 +41,4 @@ loop-k-preserved c =
 pub returns : goal.returns
 returns c =
     seen_nothing c.args.text.now c.args.run.now c.args.i c.args.at c.requires.i_bound
-    (c.loop-k.invariant.2 ∙ scan_end (first_step (is_named c.args.text.now c.args.at)) Nothing (held_there c.args.run.now c.args.i) c.loop-k.k (omega (arith, c.loop-k-test.false, c.loop-k.invariant.0, length_there c.args.run.now c.args.i)))
+    (c.loop-k.invariant.2 ∙ scan_end (first_step (is_named c.args.text.now c.args.at)) None (held_there c.args.run.now c.args.i) c.loop-k.k (omega (arith, length_there c.args.run.now c.args.i)))

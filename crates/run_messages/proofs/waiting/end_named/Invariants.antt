@@ -1,4 +1,3 @@
-use Prim.Native.Nat.{◌-◌}
 use lib.ListN.{length}
 use mathlib.Core.Path.{◌≡◌}
 use Rattle.notation.specs.Token.{name_at}
@@ -10,6 +9,3 @@ use Rattle.run_messages.proofs.waiting.end_named.Given as goal
 
 abbrev pub invariant-loop-k : goal.invariant-loop-k
 invariant-loop-k l = (l.n ≡ held_count l.run l.i) × (l.m ≡ length (name_at l.text l.at)) × (first (is_named l.text l.at) (held_there l.run l.i) ≡ first_from (is_named l.text l.at) (held_there l.run l.i) l.k)
-
-abbrev pub decreases-loop-k : goal.decreases-loop-k
-decreases-loop-k l = l.n - l.k

@@ -1,9 +1,5 @@
-use Prim.Native.Nat.{◌-◌, ◌≤◌}
 use Rattle.run_steps.specs.Running.{Running}
 use Rattle.run_steps.proofs.running.steps_within.Given as goal
 
 abbrev pub invariant-loop-taken : goal.invariant-loop-taken
-invariant-loop-taken l = Running l.text l.scratch l.initial.run l.run l.budget l.taken × (l.taken ≤ l.budget)
-
-abbrev pub decreases-loop-taken : goal.decreases-loop-taken
-decreases-loop-taken l = l.budget - l.taken
+invariant-loop-taken l = Running l.text l.scratch l.initial.run l.run l.budget l.taken

@@ -1,10 +1,6 @@
-use Prim.Native.Nat.{◌-◌, ◌≤◌}
 use Rattle.run_words.specs.Values.{held_in}
 use Rattle.run_wellformed.specs.Alike.{Matching}
 use Rattle.run_wellformed.proofs.alike.held_match.Given as goal
 
 abbrev pub invariant-loop-k : goal.invariant-loop-k
-invariant-loop-k l = Matching (held_in l.h) (held_in l.g) l.k × (l.k ≤ l.n)
-
-abbrev pub decreases-loop-k : goal.decreases-loop-k
-decreases-loop-k l = l.n - l.k
+invariant-loop-k l = Matching (held_in l.h) (held_in l.g) l.k

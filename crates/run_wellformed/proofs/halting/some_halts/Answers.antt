@@ -2,31 +2,13 @@ use native.Mathlib.Omega.{arith}
 use mathlib.Core.Path.{sym, ◌∙◌, ap}
 use mathlib.Core.Bool.{not}
 use Rattle.run_words.specs.Raw.{raw_in}
-use Rattle.run_joints.specs.Tests.{each_start, each_passed, each_failed, each_end, all_from_lem}
+use Rattle.run_joints.specs.Tests.{each_passed, each_failed, each_end, all_from_lem}
 use Rattle.run_alone.specs.Changes.{loaded}
 use Rattle.run_wellformed.specs.Halting.{halts_in, some_found, none_found}
 use Rattle.run_wellformed.proofs.halting.some_halts.Goals as goal
 
-pub count-n-requires : goal.count-n-requires
-count-n-requires c = c.requires.wide
-
-pub loop-i-init : goal.loop-i-init
-loop-i-init c = each_start c.count-n.ensures
-
-pub load-p-requires-clause-run_words_in_bounds : goal.load-p-requires-clause-run_words_in_bounds
-load-p-requires-clause-run_words_in_bounds c = c.requires.wide
-
-pub load-p-requires-clause-bounded : goal.load-p-requires-clause-bounded
-load-p-requires-clause-bounded c = c.requires.bounds
-
-pub load-p-requires-clause-i_in_bounds : goal.load-p-requires-clause-i_in_bounds
-load-p-requires-clause-i_in_bounds c = omega (arith, c.loop-i-test.true, c.count-n.ensures)
-
-pub halts-requires-clause-run_of : goal.halts-requires-clause-run_of
-halts-requires-clause-run_of c = c.requires
-
 pub halts-requires-clause-process_of : goal.halts-requires-clause-process_of
-halts-requires-clause-process_of c = (loaded _ _ c.load-p.result c.requires (c.load-p.ensures.i_value, (c.load-p.ensures.bounded_process, c.load-p.ensures.count_le_held_limit))).is
+halts-requires-clause-process_of c = (loaded _ _ c.load.result c.requires (c.load.ensures.i_value, (c.load.ensures.bounded_process, c.load.ensures.count_le_held_limit))).is
 
 pub returns-then-halts : goal.returns-then-halts
 returns-then-halts c =
@@ -34,14 +16,14 @@ returns-then-halts c =
     let processes = (raw_in a.run.now).processes in
     let halts = halts_in a.text.now a.scratch.now (raw_in a.run.now) in
     some_found halts processes
-    (all_from_lem (λ q. not (halts q)) 0 processes ∙ each_failed c.loop-i.invariant c.load-p.ensures.i_value (ap not (sym c.halts.ensures ∙ c.if-halts.true)))
+    (all_from_lem (λ q. not (halts q)) 0 processes ∙ each_failed c.loop-i.invariant c.load.ensures.i_value (ap not (sym c.halts.ensures ∙ c.if-halts.true)))
 
 pub loop-i-preserved : goal.loop-i-preserved
-loop-i-preserved c = each_passed c.loop-i.invariant c.load-p.ensures.i_value (ap not (sym c.halts.ensures ∙ c.if-halts.false))
+loop-i-preserved c = each_passed c.loop-i.invariant c.load.ensures.i_value (ap not (sym c.halts.ensures ∙ c.if-halts.false))
 
 pub returns : goal.returns
 returns c =
     let a = c.args in
     let processes = (raw_in a.run.now).processes in
     let halts = halts_in a.text.now a.scratch.now (raw_in a.run.now) in
-    none_found halts processes (all_from_lem (λ q. not (halts q)) 0 processes ∙ each_end c.loop-i.invariant c.loop-i-test.false)
+    none_found halts processes (all_from_lem (λ q. not (halts q)) 0 processes ∙ each_end c.loop-i.invariant (omega arith))

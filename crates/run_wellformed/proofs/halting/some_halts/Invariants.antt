@@ -1,4 +1,3 @@
-use Prim.Native.Nat.{◌-◌}
 use mathlib.Core.Bool.{not}
 use Rattle.run_words.specs.Raw.{raw_in}
 use Rattle.run_joints.specs.Tests.{Each}
@@ -6,7 +5,4 @@ use Rattle.run_wellformed.specs.Halting.{halts_in}
 use Rattle.run_wellformed.proofs.halting.some_halts.Given as goal
 
 abbrev pub invariant-loop-i : goal.invariant-loop-i
-invariant-loop-i l = Each (λ _ q. not (halts_in l.text l.scratch (raw_in l.run) q)) (raw_in l.run).processes l.n l.i
-
-abbrev pub decreases-loop-i : goal.decreases-loop-i
-decreases-loop-i l = l.n - l.i
+invariant-loop-i l = Each (λ _ q. not (halts_in l.text l.scratch (raw_in l.run) q)) (raw_in l.run).processes l.i

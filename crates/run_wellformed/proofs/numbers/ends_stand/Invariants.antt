@@ -1,4 +1,3 @@
-use Prim.Native.Nat.{◌-◌}
 use lib.ListN.{take}
 use Rattle.run_words.specs.Lists.{All}
 use Rattle.run_wellformed.specs.OfText.{EndOf}
@@ -7,6 +6,3 @@ use Rattle.run_wellformed.proofs.numbers.ends_stand.Given as goal
 
 abbrev pub invariant-loop-k : goal.invariant-loop-k
 invariant-loop-k l = All (EndOf l.scratch) (take l.k (held_in l.h))
-
-abbrev pub decreases-loop-k : goal.decreases-loop-k
-decreases-loop-k l = l.n - l.k

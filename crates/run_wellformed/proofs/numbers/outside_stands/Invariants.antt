@@ -1,4 +1,3 @@
-use Prim.Native.Nat.{◌-◌}
 use lib.ListN.{take}
 use Rattle.run_words.specs.Lists.{All}
 use Rattle.run_wellformed.specs.OfText.{OutsideOf}
@@ -7,6 +6,3 @@ use Rattle.run_wellformed.proofs.numbers.outside_stands.Given as goal
 
 abbrev pub invariant-loop-k : goal.invariant-loop-k
 invariant-loop-k l = All (OutsideOf l.scratch) (take l.k (raw_in l.run).outside)
-
-abbrev pub decreases-loop-k : goal.decreases-loop-k
-decreases-loop-k l = l.n - l.k

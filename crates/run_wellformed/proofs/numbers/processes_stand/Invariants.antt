@@ -1,4 +1,3 @@
-use Prim.Native.Nat.{◌-◌}
 use lib.ListN.{take}
 use Rattle.run_words.specs.Lists.{All}
 use Rattle.run_wellformed.specs.OfText.{ProcessOf}
@@ -7,6 +6,3 @@ use Rattle.run_wellformed.proofs.numbers.processes_stand.Given as goal
 
 abbrev pub invariant-loop-i : goal.invariant-loop-i
 invariant-loop-i l = All (ProcessOf l.scratch) (take l.i (raw_in l.run).processes)
-
-abbrev pub decreases-loop-i : goal.decreases-loop-i
-decreases-loop-i l = l.n - l.i

@@ -6,20 +6,8 @@ use Rattle.run_words.specs.Raw.{raw_in}
 use Rattle.run_words.specs.Values.{outside_in}
 use Rattle.run_words.specs.ListLaws.{all_at}
 use Rattle.run_wellformed.specs.OfText.{OutsideOf}
-use Rattle.run_joints.specs.Tests.{each_start, each_passed, each_failed, each_end, all_from_lem}
+use Rattle.run_joints.specs.Tests.{each_passed, each_failed, each_end, all_from_lem}
 use Rattle.run_wellformed.proofs.outwards.outside_outward.Goals as goal
-
-pub loop-k-init : goal.loop-k-init
-loop-k-init c = each_start c.outside_count-n.ensures
-
-pub outside_at-o-requires-clause-run_words_in_bounds : goal.outside_at-o-requires-clause-run_words_in_bounds
-outside_at-o-requires-clause-run_words_in_bounds c = c.requires.run_words_in_bounds
-
-pub outside_at-o-requires-clause-bounded : goal.outside_at-o-requires-clause-bounded
-outside_at-o-requires-clause-bounded c = c.requires.bounded
-
-pub outside_at-o-requires-clause-k_in_bounds : goal.outside_at-o-requires-clause-k_in_bounds
-outside_at-o-requires-clause-k_in_bounds c = omega (arith, c.loop-k-test.true, c.outside_count-n.ensures)
 
 pub has_other-requires : goal.has_other-requires
 has_other-requires c = (
@@ -42,4 +30,4 @@ loop-k-preserved c =
     c.wide.ensures.value c.has_other.ensures c.if-has_other.false)
 
 pub returns : goal.returns
-returns c = sym (all_from_lem (outward_in c.args.text.now c.args.scratch.now) 0 (raw_in c.args.run.now).outside ∙ each_end c.loop-k.invariant c.loop-k-test.false)
+returns c = sym (all_from_lem (outward_in c.args.text.now c.args.scratch.now) 0 (raw_in c.args.run.now).outside ∙ each_end c.loop-k.invariant (omega arith))

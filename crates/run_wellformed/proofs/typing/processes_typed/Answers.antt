@@ -1,26 +1,11 @@
 use native.Mathlib.Omega.{arith}
-use mathlib.Core.Path.{refl, sym, ◌∙◌}
+use mathlib.Core.Path.{sym, ◌∙◌}
 use Rattle.run_wellformed.specs.Typing.{typed_in}
 use Rattle.run_words.specs.Raw.{raw_in}
 use Rattle.run_words.specs.ListLaws.{all_at}
 use Rattle.run_wellformed.specs.OfText.{ProcessOf}
-use Rattle.run_joints.specs.Tests.{each_start, each_passed, each_failed, each_end, all_from_lem}
+use Rattle.run_joints.specs.Tests.{each_passed, each_failed, each_end, all_from_lem}
 use Rattle.run_wellformed.proofs.typing.processes_typed.Goals as goal
-
-pub loop-i-init : goal.loop-i-init
-loop-i-init c = (each_start c.count-n.ensures, omega arith, refl)
-
-pub load-p-requires-clause-run_words_in_bounds : goal.load-p-requires-clause-run_words_in_bounds
-load-p-requires-clause-run_words_in_bounds c = c.requires.run_words_in_bounds
-
-pub load-p-requires-clause-bounded : goal.load-p-requires-clause-bounded
-load-p-requires-clause-bounded c = c.requires.bounded
-
-pub load-p-requires-clause-i_in_bounds : goal.load-p-requires-clause-i_in_bounds
-load-p-requires-clause-i_in_bounds c = omega (arith, c.loop-i-test.true, c.count-n.ensures)
-
-pub typed_after-requires-clause-tables : goal.typed_after-requires-clause-tables
-typed_after-requires-clause-tables c = c.requires.tables
 
 pub typed_after-requires-clause-process_of : goal.typed_after-requires-clause-process_of
 typed_after-requires-clause-process_of c = (
@@ -28,9 +13,6 @@ typed_after-requires-clause-process_of c = (
   (_, c.load-p.ensures.bounded_process),
   c.load-p.ensures.count_le_held_limit,
 )
-
-pub typed_after-requires-clause-count_le_held_limit : goal.typed_after-requires-clause-count_le_held_limit
-typed_after-requires-clause-count_le_held_limit c = (c.loop-i.invariant.1, c.loop-i.invariant.2)
 
 pub returns-then-not-typed_after : goal.returns-then-not-typed_after
 returns-then-not-typed_after c =
@@ -43,4 +25,4 @@ loop-i-preserved c =
     (each_passed c.loop-i.invariant.0 c.load-p.ensures.i_value typed, c.load-p.ensures.count_le_held_limit, typed)
 
 pub returns : goal.returns
-returns c = sym (all_from_lem (typed_in c.args.text.now c.args.scratch.now) 0 (raw_in c.args.run.now).processes ∙ each_end c.loop-i.invariant.0 c.loop-i-test.false)
+returns c = sym (all_from_lem (typed_in c.args.text.now c.args.scratch.now) 0 (raw_in c.args.run.now).processes ∙ each_end c.loop-i.invariant.0 (omega arith))

@@ -4,18 +4,10 @@ use Rattle.run_words.specs.Values.{held_in, held_length}
 use Rattle.run_words.proofs.Decisions.{so_far, whole, refused_at_lem}
 use Rattle.run_words.proofs.bounded.ends_bounded.Goals as goal
 
-pub loop-k-init : goal.loop-k-init
-loop-k-init c = tt
-
 pub returns-then-e-ge-TEXT : goal.returns-then-e-ge-TEXT
 returns-then-e-ge-TEXT c =
     refused_at_lem BoundedEnd (held_in c.args.h) c.loop-k.k c.end_at-e.ensures.k_value
-    (λ b. omega (arith, b.name, c.if-e-ge-TEXT.true))
-
-pub returns-then-e-ge-TYPE_TERMS : goal.returns-then-e-ge-TYPE_TERMS
-returns-then-e-ge-TYPE_TERMS c =
-    refused_at_lem BoundedEnd (held_in c.args.h) c.loop-k.k
-    c.end_at-e.ensures.k_value (λ b. omega (arith, b.node, c.if-e-ge-TYPE_TERMS.true))
+    (λ b. omega (arith, b.name, b.node))
 
 pub loop-k-preserved : goal.loop-k-preserved
 loop-k-preserved c =

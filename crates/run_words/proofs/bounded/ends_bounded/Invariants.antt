@@ -1,4 +1,3 @@
-use Prim.Native.Nat.{◌-◌}
 use lib.ListN.{take}
 use Rattle.run_words.specs.Lists.{All}
 use Rattle.run_words.specs.Raw.{BoundedEnd}
@@ -7,6 +6,3 @@ use Rattle.run_words.proofs.bounded.ends_bounded.Given as goal
 
 abbrev pub invariant-loop-k : goal.invariant-loop-k
 invariant-loop-k l = All BoundedEnd (take l.k (held_in l.h))
-
-abbrev pub decreases-loop-k : goal.decreases-loop-k
-decreases-loop-k l = l.n - l.k

@@ -11,33 +11,17 @@ use Rattle.run_words.proofs.channels.mark_held.Goals as goal
 pub loop-k-init : goal.loop-k-init
 loop-k-init c =
     let a = c.args in
-    let n = c.held_count-k in (
-      omega (arith, n.ensures),
-      λ l m. marked_as _ (ap (λ (d : List RawEnd). held_channels d l)
-          (sym (drop_none (held_there a.run.now a.i) n.result (n.ensures ∙ sym (length_there a.run.now a.i))))) m,
-    )
-
-pub held_end-e-requires-clause-run_words_in_bounds : goal.held_end-e-requires-clause-run_words_in_bounds
-held_end-e-requires-clause-run_words_in_bounds c = (c.requires.run_words_in_bounds.0, c.requires.run_words_in_bounds.1, omega (arith, c.loop-k.invariant.0, c.requires.i_bound))
-
-pub held_end-e-requires-clause-k_bound : goal.held_end-e-requires-clause-k_bound
-held_end-e-requires-clause-k_bound c = omega (arith, c.loop-k.invariant.0)
-
-pub offset_bounds-marks-wide : goal.offset_bounds-marks-wide
-offset_bounds-marks-wide c = omega (arith, c.wide.ensures.value, c.held_end-e.ensures.side_lt_side_radix.1)
-
-pub bounds-marks-wide : goal.bounds-marks-wide
-bounds-marks-wide c = omega (arith, c.wide.ensures.value, c.held_end-e.ensures.side_lt_side_radix.1)
+    let n = c.held_count-k in
+    λ l m. marked_as _ (ap (λ (d : List RawEnd). held_channels d l)
+    (sym (drop_none (held_there a.run.now a.i) n.result (n.ensures ∙ sym (length_there a.run.now a.i))))) m
 
 pub loop-k-preserved : goal.loop-k-preserved
 loop-k-preserved c =
-    let a = c.args in (
-      omega arith,
-      λ l m. marked_as _ (held_turn (held_there a.run.now a.i) (c.loop-k.k - 1) c.loop-k.k c.wide.result l c.held_end-e.ensures.k_value (omega arith) c.wide.ensures.value)
-          (mark c.loop-k.marks _ c.wide.result (omega (arith, c.wide.ensures.value, c.held_end-e.ensures.side_lt_side_radix.1)) (c.loop-k.invariant.1 l m)),
-    )
+    let a = c.args in
+    λ l m. marked_as _ (held_turn (held_there a.run.now a.i) (c.loop-k.k - 1) c.loop-k.k c.wide.result l c.held_end-e.ensures.k_value (omega arith) c.wide.ensures.value)
+    (mark c.loop-k.marks _ c.wide.result (omega arith) (c.loop-k.invariant l m))
 
 pub returns : goal.returns
 returns c =
     let a = c.args in
-    λ l m. marked_as _ (ap (λ (d : List RawEnd). held_channels d l) (drop_all (held_there a.run.now a.i) c.loop-k.k (omega arith))) (c.loop-k.invariant.1 l m)
+    λ l m. marked_as _ (ap (λ (d : List RawEnd). held_channels d l) (drop_all (held_there a.run.now a.i) c.loop-k.k (omega arith))) (c.loop-k.invariant l m)

@@ -8,7 +8,3 @@ use Rattle.run_words.proofs.held.end_at.Goals as goal
 pub returns-clause-k_value : goal.returns-clause-k_value
 unfolding held_in
 returns-clause-k_value c = end_here c.args.h.words c.args.h.count c.args.k _ _ (omega arith) refl refl ∙ ap some (sym c.unpacked.ensures.result_value)
-
-pub returns-clause-side_lt_side_radix : goal.returns-clause-side_lt_side_radix
-unfolding held_in
-returns-clause-side_lt_side_radix c = c.unpacked.ensures.side_lt_side_radix

@@ -5,7 +5,3 @@ use Rattle.run_words.proofs.held.no_ends.Goals as goal
 pub returns-clause-result_value : goal.returns-clause-result_value
 unfolding held_in
 returns-clause-result_value c = refl
-
-pub returns-clause-count_value : goal.returns-clause-count_value
-unfolding held_in
-returns-clause-count_value c = refl

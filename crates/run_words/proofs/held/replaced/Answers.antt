@@ -1,13 +1,8 @@
 use native.Mathlib.Omega.{arith}
-use mathlib.Core.Path.{refl}
 use Rattle.run_words.specs.Values.{held_in}
 use Rattle.run_words.proofs.Ends.{ends_set}
 use Rattle.run_words.proofs.held.replaced.Goals as goal
 
 pub returns-clause-result_value : goal.returns-clause-result_value
 unfolding held_in
-returns-clause-result_value c = let a = c.args in ends_set _ _ a.h.count a.k _ c.put_end-w.ensures (omega arith)
-
-pub returns-clause-count_value : goal.returns-clause-count_value
-unfolding held_in
-returns-clause-count_value c = let a = c.args in refl
+returns-clause-result_value c = let a = c.args in ends_set _ _ a.h.count a.k _ c.put_end.ensures (omega arith)

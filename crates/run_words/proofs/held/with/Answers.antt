@@ -7,8 +7,4 @@ use Rattle.run_words.proofs.held.with.Goals as goal
 
 pub returns-clause-result_value : goal.returns-clause-result_value
 unfolding held_in
-returns-clause-result_value c = let a = c.args in ends_append _ _ a.h.count a.h.count _ c.put_end-w.ensures (a.h.count + 1) refl (omega arith)
-
-pub returns-clause-count_value : goal.returns-clause-count_value
-unfolding held_in
-returns-clause-count_value c = let a = c.args in refl
+returns-clause-result_value c = let a = c.args in ends_append _ _ a.h.count a.h.count _ c.put_end.ensures (a.h.count + 1) refl (omega arith)

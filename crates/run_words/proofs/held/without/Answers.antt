@@ -1,22 +1,19 @@
-use borrow.Author.Rules.{rules}
 use native.Mathlib.Omega.{arith}
-use Prim.Native.Nat.{◌+◌, ◌-◌, ◌*◌}
-use mathlib.Core.Path.{◌≡◌, refl}
-use lib.ListN.{length}
+use Prim.Native.Nat.{◌-◌, ◌*◌}
+use mathlib.Core.Path.{ap, ◌∙◌}
+use lib.ListN.{get_or}
 use Rattle.run_words.specs.Values.{held_in}
-use Rattle.run_words.proofs.Rows.{moved_none, moved_up}
 use Rattle.run_words.proofs.Ends.{ends_remove}
 use Rattle.run_words.proofs.held.without.Goals as goal
 
-pub loop-j-init : goal.loop-j-init
-loop-j-init c = (omega arith, omega arith, moved_none _ _ _ _ (omega arith))
-
-pub loop-j-preserved : goal.loop-j-preserved
-loop-j-preserved c =
-    let a = c.args in
-    let l : length a.h.words ≡ 32 = search rules in
-    (omega arith, omega arith, moved_up a.h.words _ c.loop-j.w (2 * a.k) c.loop-j.j (c.loop-j.j + 1) _ c.loop-j.invariant.2 (omega arith) (omega arith) refl (c.loop-j.invariant.2.above (c.loop-j.j + 2) (omega arith)))
-
 pub returns-clause-result_value : goal.returns-clause-result_value
 unfolding held_in
-returns-clause-result_value c = let a = c.args in ends_remove a.h.words c.loop-j.w a.k a.h.count (a.h.count - 1) c.loop-j.j (omega arith) (omega arith) (omega arith) c.loop-j.invariant.2
+returns-clause-result_value c =
+    let h = c.args.h in
+    let e = c.copy_within.ensures in
+    ends_remove h.words c.copy_within.new.self c.args.k h.count (h.count - 1) (2 * (h.count - 1)) (omega arith) (omega arith) (omega arith) (record {
+      long = e.len;
+      inside = λ k a b. e.by_index.0 k 0 (omega arith) (omega arith) ∙ ap (λ j. get_or h.words j 0) (omega arith);
+      below = λ k a. e.by_index.1 k 0 (omega arith);
+      above = λ k a. e.by_index.2 k 0 (omega arith);
+    })

@@ -1,13 +1,8 @@
-use Prim.Native.Nat.{◌-◌}
 use mathlib.Core.Path.{◌≡◌}
-use lib.ListN.{length}
 use Rattle.run_words.specs.Raw.{raw_in}
 use Rattle.run_words.specs.Operations.{on_channel, outside_at}
 use Rattle.run_words.proofs.Searches.{first_from}
 use Rattle.run_words.proofs.outside.find_outside.Given as goal
 
 abbrev pub invariant-loop-k : goal.invariant-loop-k
-invariant-loop-k l = (l.n ≡ length (raw_in l.run).outside) × (outside_at l.channel (raw_in l.run).outside ≡ first_from (on_channel l.channel) (raw_in l.run).outside l.k)
-
-abbrev pub decreases-loop-k : goal.decreases-loop-k
-decreases-loop-k l = l.n - l.k
+invariant-loop-k l = outside_at l.channel (raw_in l.run).outside ≡ first_from (on_channel l.channel) (raw_in l.run).outside l.k

@@ -1,21 +1,8 @@
 use native.Mathlib.Omega.{arith}
-use lib.ListN.{length-set}
 use Rattle.run_words.specs.Values.{process_in, held_length}
 use Rattle.run_words.specs.Bounds.{keeps, bounded_single}
 use Rattle.run_words.proofs.Slices.{begun}
 use Rattle.run_words.proofs.places.begin.Goals as goal
-
-pub bounds-run-1 : goal.bounds-run-1
-bounds-run-1 c = simp length-set (omega arith)
-
-pub bounds-run-2 : goal.bounds-run-2
-bounds-run-2 c = simp length-set (omega arith)
-
-pub bounds-run-3 : goal.bounds-run-3
-bounds-run-3 c = simp length-set (omega arith)
-
-pub put-requires-clause-place_words_in_bounds : goal.put-requires-clause-place_words_in_bounds
-put-requires-clause-place_words_in_bounds c = let b = c.requires.bounded_process in simp length-set (omega arith)
 
 pub put-requires-clause-kind_bound : goal.put-requires-clause-kind_bound
 put-requires-clause-kind_bound c = let b = c.requires.bounded_process in (b.kind, b.pointer, omega (arith, b.many, held_length c.args.p.held))

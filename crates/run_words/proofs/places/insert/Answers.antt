@@ -5,9 +5,6 @@ use Rattle.run_words.specs.Bounds.{keeps, bounded_insert}
 use Rattle.run_words.proofs.Shifts.{inserted_words}
 use Rattle.run_words.proofs.places.insert.Goals as goal
 
-pub put-requires-clause-place_words_in_bounds : goal.put-requires-clause-place_words_in_bounds
-put-requires-clause-place_words_in_bounds c = let b = c.requires.bounded_process in omega (arith, c.move_up.ensures.long, c.relink.ensures.long, c.count-n.ensures)
-
 pub put-requires-clause-kind_bound : goal.put-requires-clause-kind_bound
 put-requires-clause-kind_bound c = let b = c.requires.bounded_process in (b.kind, b.pointer, omega (arith, b.many, held_length c.args.p.held))
 

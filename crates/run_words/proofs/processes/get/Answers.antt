@@ -1,9 +1,8 @@
 use native.Mathlib.Omega.{arith}
-use Prim.Native.Nat.{ℕ, ◌+◌, ◌*◌, ◌<◌, ◌≤◌}
+use Prim.Native.Nat.{ℕ, ◌+◌, ◌<◌}
 use mathlib.Core.Path.{◌≡◌, refl, sym, ap, ◌∙◌}
 use lib.ListN.{get_or}
-use Rattle.run_words.specs.Raw.{places_at, place_words}
-use Rattle.notation.specs.Limits.{held_limit}
+use Rattle.run_words.specs.Raw.{ends_from, link_of, process_row, held_words}
 use Rattle.run_words.specs.Values.{held_in}
 use Rattle.run_words.proofs.Slices.{process_of_lem}
 use Rattle.run_words.proofs.processes.get.Goals as goal
@@ -12,18 +11,7 @@ pub returns-clause-i_value : goal.returns-clause-i_value
 unfolding held_in
 returns-clause-i_value c =
     let ws = c.args.run.now in
-    let b = places_at + place_words * c.args.i in
-    let few : c.wide-n.result ≤ held_limit = omega (arith, c.wide-n.ensures.value, c.requires.i_bound) in
-    let first : b + 0 ≡ b = omega arith in
-    let held : (k : ℕ) → k < 32 → get_or ws (b + (3 + k)) 0 ≡ get_or c.copy_out-w.result k 0 =
-    λ k l. let e : b + (3 + k) ≡ b + 3 + k = omega arith in ap (λ m. get_or ws m 0) e ∙ sym (c.copy_out-w.ensures k l) in process_of_lem (λ t. get_or ws (b + t) 0) (get_or ws b 0) (get_or ws (b + 1) 0) c.wide-n.result c.copy_out-w.result (ap (λ m. get_or ws m 0) first) refl (sym c.wide-n.ensures.value) few held
-
-pub returns-clause-count_le_held_limit : goal.returns-clause-count_le_held_limit
-unfolding held_in
-returns-clause-count_le_held_limit c =
-    let ws = c.args.run.now in
-    let b = places_at + place_words * c.args.i in
-    let few : c.wide-n.result ≤ held_limit = omega (arith, c.wide-n.ensures.value, c.requires.i_bound) in
-    let first : b + 0 ≡ b = omega arith in
-    let held : (k : ℕ) → k < 32 → get_or ws (b + (3 + k)) 0 ≡ get_or c.copy_out-w.result k 0 =
-    λ k l. let e : b + (3 + k) ≡ b + 3 + k = omega arith in ap (λ m. get_or ws m 0) e ∙ sym (c.copy_out-w.ensures k l) in few
+    let w = process_row ws c.args.i in
+    let held : (k : ℕ) → k < held_words → w (ends_from + k) ≡ get_or c.copy_out.result k 0 = λ k l. ap (λ m. get_or ws m 0) (omega arith) ∙ sym (c.copy_out.ensures k l) in
+    process_of_lem w (w 0) (w 1) c.held_count.result c.copy_out.result refl refl (sym c.held_count.ensures) (omega arith) held
+    ∙ λ i. record { kind = sym c.doing-kind.ensures.0 i; pointer = sym c.doing-kind.ensures.1 i; held = held_in (record { count = c.held_count.result; words = c.copy_out.result }); link = link_of (w 1) }

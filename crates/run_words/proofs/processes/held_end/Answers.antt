@@ -5,6 +5,3 @@ use Rattle.run_words.proofs.processes.held_end.Goals as goal
 
 pub returns-clause-k_value : goal.returns-clause-k_value
 returns-clause-k_value c = end_there c.args.run.now c.args.i c.args.k _ c.requires.k_bound refl ∙ ap some (sym c.unpacked.ensures.result_value)
-
-pub returns-clause-side_lt_side_radix : goal.returns-clause-side_lt_side_radix
-returns-clause-side_lt_side_radix c = c.unpacked.ensures.side_lt_side_radix

@@ -1,10 +1,6 @@
-use native.Mathlib.Omega.{arith}
 use Rattle.run_words.specs.SliceLaws.{held_few}
 use Rattle.run_words.proofs.Slices.{loaded}
 use Rattle.run_words.proofs.processes.load.Goals as goal
-
-pub get-requires-clause-run_words_in_bounds : goal.get-requires-clause-run_words_in_bounds
-get-requires-clause-run_words_in_bounds c = (omega arith, omega (arith, c.requires.bounded.places))
 
 pub get-requires-clause-i_bound : goal.get-requires-clause-i_bound
 get-requires-clause-i_bound c = held_few c.args.run.now c.args.i c.requires.bounded c.requires.i_in_bounds
@@ -14,6 +10,3 @@ returns-clause-i_value c = let at = loaded c.args.run.now c.args.i _ c.requires.
 
 pub returns-clause-bounded_process : goal.returns-clause-bounded_process
 returns-clause-bounded_process c = let at = loaded c.args.run.now c.args.i _ c.requires.bounded c.requires.i_in_bounds c.get.ensures.i_value in at.1
-
-pub returns-clause-count_le_held_limit : goal.returns-clause-count_le_held_limit
-returns-clause-count_le_held_limit c = let at = loaded c.args.run.now c.args.i _ c.requires.bounded c.requires.i_in_bounds c.get.ensures.i_value in c.get.ensures.count_le_held_limit

@@ -5,9 +5,6 @@ use Rattle.run_words.specs.Bounds.{keeps, bounded_set}
 use Rattle.run_words.proofs.Slices.{stored}
 use Rattle.run_words.proofs.processes.store.Goals as goal
 
-pub put-requires-clause-place_words_in_bounds : goal.put-requires-clause-place_words_in_bounds
-put-requires-clause-place_words_in_bounds c = let b = c.requires.bounded_process in omega (arith, c.requires.bounded.places)
-
 pub put-requires-clause-kind_bound : goal.put-requires-clause-kind_bound
 put-requires-clause-kind_bound c = let b = c.requires.bounded_process in (b.kind, b.pointer, omega (arith, b.many, held_length c.args.p.held))
 
