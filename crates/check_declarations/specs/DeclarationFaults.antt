@@ -10,8 +10,7 @@ use Rattle.notation.specs.Reader.{name_in}
 use Rattle.calculus.specs.Program.{Program, program_of}
 use Rattle.calculus.specs.Declarations.{channels, repeats, unless_defined, entries_repeats, entries_undefined, own_repeats, own_undefined, repeated, undefined}
 use Rattle.read_tables.specs.declared.access.Labelled.{Labelled}
-use Rattle.read_tables.specs.declared.access.Declared.{Declared}
-use Rattle.read_tables.specs.Access.{as_entry, TypeOf, SignatureOf, ExecOf, EntryOf}
+use Rattle.read_tables.specs.Access.{TypeOf, SignatureOf, ExecOf, EntryOf}
 use Rattle.notation.specs.declared.reading.ProcessEntry.{ProcessEntry}
 use Rattle.notation.specs.Limits.{type_term_limit}
 use Rattle.read_tables.specs.Decode.{tally_in, numbered, entry_at, entries_in, type_at, proc_by, type_declaration, proc_declaration, exec_declaration, script_in}
@@ -89,9 +88,9 @@ module _ (s w : List ℕ) where
         ap (parts pass e) (signature_names e.first e.provided e.used)
         ∙ by_pass (λ q. parts q e names) (λ q. declaration_faults q (program_in s w) (proc_by s w e)) refl refl pass
 
-    pub process_walked : {i : ℕ} {r : Declared} {l m : Lowest} → SignatureOf w i r → Lowered l (parts pass (as_entry r) (numbered (name_of s w (Entries r.first)) 0 (r.provided + r.used))) m → Lowered l (declaration_faults pass (program_in s w) (proc_declaration s w i)) m
+    pub process_walked : {i : ℕ} {r : ProcessEntry} {l m : Lowest} → SignatureOf w i r → Lowered l (parts pass r (numbered (name_of s w (Entries r.first)) 0 (r.provided + r.used))) m → Lowered l (declaration_faults pass (program_in s w) (proc_declaration s w i)) m
     unfolding proc_declaration
-    process_walked o = lowered_as (process_parts (as_entry _) ∙ ap (λ e. declaration_faults pass (program_in s w) (proc_by s w e)) o.holds)
+    process_walked o = lowered_as (process_parts _ ∙ ap (λ e. declaration_faults pass (program_in s w) (proc_by s w e)) o.holds)
 
   pub exec_walked : {i r : ℕ} {l m : Lowest} → ExecOf w i r → Lowered l (unless_defined (program_in s w).processes (name_in s r)) m → Lowered l (own_undefined (program_in s w) (exec_declaration s w i)) m
   unfolding exec_declaration exec_in

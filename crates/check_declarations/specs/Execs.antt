@@ -11,8 +11,8 @@ use Rattle.calculus.specs.Program.{Program, Signature, entries}
 use Rattle.calculus.specs.Declarations.{has_other, outward, entry_types, is_nil, keeps_rule, breaking, wrong_execs}
 use Rattle.calculus.specs.Named.{lookup, every}
 use Rattle.read_tables.specs.declared.access.Labelled.{Labelled}
-use Rattle.read_tables.specs.declared.access.Declared.{Declared}
-use Rattle.read_tables.specs.Access.{as_entry, EntryOf, SignatureOf, ExecOf}
+use Rattle.notation.specs.declared.reading.ProcessEntry.{ProcessEntry}
+use Rattle.read_tables.specs.Access.{EntryOf, SignatureOf, ExecOf}
 use Rattle.read_tables.specs.Decode.{tally_in, numbered, entry_at, entries_in, script_in}
 use Rattle.read_tables.specs.Program.{program_in, signature_of, named_process, exec_in, execs_in}
 use Rattle.read_tables.specs.Search.{Sought, place_of}
@@ -61,8 +61,8 @@ module _ (s w : List ℕ) {name : Name} {r : CodeOption ℕ} (t : Sought name (p
   pub keeps_none : r ≡ None → true ≡ kept (lookup name (program_in s w).processes)
   keeps_none e = sym (ap kept (t.is ∙ ap (λ (q : CodeOption ℕ). map (λ i. (named_process s w i).1) (place_of q)) e))
 
-  module _ {j : ℕ} (e : r ≡ Some j) {d : Declared} (o : SignatureOf w j d) where
-    signed : kept (some (signature_of s w (as_entry d))) ≡ kept (lookup name (program_in s w).processes)
+  module _ {j : ℕ} (e : r ≡ Some j) {d : ProcessEntry} (o : SignatureOf w j d) where
+    signed : kept (some (signature_of s w d)) ≡ kept (lookup name (program_in s w).processes)
     signed =
         sym (ap kept (t.is ∙ ap (λ (q : CodeOption ℕ). map (λ i. (named_process s w i).1) (place_of q)) e ∙ ap (λ (q : Name × Signature). some q.1) (o.is s)))
 

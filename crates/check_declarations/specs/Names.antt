@@ -17,7 +17,7 @@ use Rattle.calculus.specs.Named.{any_of}
 use Rattle.theory_derivations.specs.Equality.{same_cases}
 use Rattle.read_tables.specs.Access.{TypeOf, SignatureOf, EntryOf, AlternativeOf, BranchOf}
 use Rattle.read_tables.specs.declared.access.Labelled.{Labelled}
-use Rattle.read_tables.specs.declared.access.Declared.{Declared}
+use Rattle.notation.specs.declared.reading.ProcessEntry.{ProcessEntry}
 use Rattle.read_tables.specs.Decode.{type_at, process_at, entry_at, alternative_at, branch_at, numbered}
 use Rattle.check_declarations.specs.declared.names.Names.{Names}
 use Rattle.check_declarations.specs.declared.names.Names.TheVariants.{Types, Processes, Entries, Alternatives, Branches}
@@ -166,7 +166,7 @@ module _ {w : List ℕ} {names : Names} {k : ℕ} {r : Place} where
   pub type_stands : {t : Labelled} → names ≡ Types → TypeOf w k t → (r.at ≡ t.at) × (r.letter ≡ t.at) → StandsAt w names k r
   type_stands e o = name_stands (λ s. ap (λ (m : Names). name_of s w m k) e) o.holds.at
 
-  pub process_stands : {d : Declared} → names ≡ Processes → SignatureOf w k d → (r.at ≡ d.at) × (r.letter ≡ d.at) → StandsAt w names k r
+  pub process_stands : {d : ProcessEntry} → names ≡ Processes → SignatureOf w k d → (r.at ≡ d.at) × (r.letter ≡ d.at) → StandsAt w names k r
   process_stands e o = name_stands (λ s. ap (λ (m : Names). name_of s w m k) e) (λ j. (o.holds j).at)
 
   pub entry_stands : {i : ℕ} {t : Labelled} → names ≡ Entries i → EntryOf w (i + k) t → (r.at ≡ t.at) × (r.letter ≡ t.at) → StandsAt w names k r

@@ -23,7 +23,7 @@ use Rattle.read_tables.specs.Decode.{tally_in, entries_in}
 use Rattle.read_tables.specs.Names.{NamesFrom, CallAt}
 use Rattle.read_tables.specs.Program.{program_in, named_process, signature_of}
 use Rattle.read_tables.specs.Search.{place_of, Sought}
-use Rattle.read_tables.specs.declared.access.Declared.{Declared}
+use Rattle.notation.specs.declared.reading.ProcessEntry.{ProcessEntry}
 use Rattle.check_contexts.specs.Held.{channels_of}
 use Rattle.check_contexts.specs.Walks.{Ends}
 use Rattle.check_terms.specs.Next.{Step, go, asking, granted, context_in}
@@ -149,7 +149,7 @@ module _ (s w : List ℕ) (h : Held) (q : ℕ) {r : CodeOption ℕ} (f : Sought 
   pub fits_nothing : {a b : ℕ} → r ≡ None → BothFit s w h q a b false
   fits_nothing e = record { is = λ xs ys rest rest' n m. sym (ap (fits_signature (program_in s w) (context_in s w h) (names_of xs) (names_of ys)) (f.is ∙ ap (λ x. map (λ i. (named_process s w i).1) (place_of x)) e)) }
 
-  module _ {k : ℕ} (e : r ≡ Some k) {d : Declared} (g : SignatureOf w k d) where
+  module _ {k : ℕ} (e : r ≡ Some k) {d : ProcessEntry} (g : SignatureOf w k d) where
     fits_by : (xs ys : List Located) → fits_signature (program_in s w) (context_in s w h) (names_of xs) (names_of ys) (lookup (name_at s q) (program_in s w).processes)
         ≡ list_fits (program_in s w) (context_in s w h) provided (names_of xs) (entries (entries_in s w d.first d.provided))
         && list_fits (program_in s w) (context_in s w h) used (names_of ys) (entries (entries_in s w (d.first + d.provided) d.used))

@@ -23,12 +23,11 @@ use Rattle.calculus.specs.WellFormed.{context_of}
 use Rattle.theory_ends.specs.Contexts.{context_append}
 use Rattle.run_words.specs.Raw.{RawEnd, side_of}
 use Rattle.run_words.specs.declared.records.Held.{Held}
-use Rattle.read_tables.specs.Access.{EntryOf, SignatureOf, as_entry}
+use Rattle.read_tables.specs.Access.{EntryOf, SignatureOf}
 use Rattle.read_tables.specs.Decode.{tally_in, entry_at, type_in, process_in, entries_in, proc_declaration, proc_by, type_declaration, exec_declaration, numbered, script_in}
 use Rattle.read_tables.specs.Program.{plain_in, program_in}
 use Rattle.read_tables.specs.Whole.{SignatureIn, Tables}
 use Rattle.read_tables.specs.declared.access.Labelled.{Labelled}
-use Rattle.read_tables.specs.declared.access.Declared.{Declared}
 use Rattle.notation.specs.declared.reading.ProcessEntry.{ProcessEntry}
 use Rattle.run_words.specs.Lists.{tab, All}
 use Rattle.run_words.specs.ListLaws.{all_append, map_join}
@@ -128,25 +127,25 @@ none_at s w i (suc n) zero l = absurd (omega arith)
 none_at s w i (suc n) (suc k) l = none_at s w (i + 1) n k (omega arith)
 
 -- ── the check of a declaration
-module _ (s w : List ℕ) (i : ℕ) (d : Declared) (g : SignatureOf w i d) where
+module _ (s w : List ℕ) (i : ℕ) (d : ProcessEntry) (g : SignatureOf w i d) where
   abbrev P : Program
   P = program_in s w
 
   abbrev body_verdict : Option Located → calculus.Verdict
-  body_verdict o = unless_named o (check P (context_by s w (as_entry d)) (process_in s w d.body))
+  body_verdict o = unless_named o (check P (context_by s w d) (process_in s w d.body))
 
-  body_by : check_declaration P (proc_declaration s w i) ≡ body_verdict (get_elem? (names_of s w (as_entry d)) held_limit)
+  body_by : check_declaration P (proc_declaration s w i) ≡ body_verdict (get_elem? (names_of s w d) held_limit)
   unfolding proc_declaration
   body_by = ap (λ e. check_declaration P (proc_by s w e)) (sym g.holds)
 
   pub body_named : (t : Labelled) → EntryOf w (d.first + held_limit) t → held_limit < d.provided + d.used → refused 15 t.at ≡ check_declaration P (proc_declaration s w i)
-  body_named t o l = sym (body_by ∙ ap (λ ns. body_verdict (get_elem? ns held_limit)) (names_in s w (as_entry d)) ∙ ap body_verdict (channel_at s w d.first (d.provided + d.used) held_limit l t o))
+  body_named t o l = sym (body_by ∙ ap (λ ns. body_verdict (get_elem? ns held_limit)) (names_in s w d) ∙ ap body_verdict (channel_at s w d.first (d.provided + d.used) held_limit l t o))
 
-  pub body_checked : (r : Held) → d.provided + d.used ≤ held_limit → SignatureHeld s w (as_entry d) r → {v : calculus.Verdict} → v ≡ check P (context_in s w r) (process_in s w d.body) → v ≡ check_declaration P (proc_declaration s w i)
+  pub body_checked : (r : Held) → d.provided + d.used ≤ held_limit → SignatureHeld s w d r → {v : calculus.Verdict} → v ≡ check P (context_in s w r) (process_in s w d.body) → v ≡ check_declaration P (proc_declaration s w i)
   body_checked r l h e =
       e
       ∙ ap (λ H. check P H (process_in s w d.body)) h.is
-      ∙ sym (body_by ∙ ap (λ ns. body_verdict (get_elem? ns held_limit)) (names_in s w (as_entry d)) ∙ ap body_verdict (none_at s w d.first (d.provided + d.used) held_limit l))
+      ∙ sym (body_by ∙ ap (λ ns. body_verdict (get_elem? ns held_limit)) (names_in s w d) ∙ ap body_verdict (none_at s w d.first (d.provided + d.used) held_limit l))
 
 -- ── each process in its turn
 module _ (s w : List ℕ) where

@@ -15,10 +15,10 @@ use Rattle.calculus.specs.Warnings.{Missing, missing, Warning, warning_in, own_w
 use Rattle.std.specs.Prelude.{Some, None}
 use Rattle.theory_derivations.specs.Fine.{refuted, then_law}
 use Rattle.run_words.specs.declared.records.Held.{Held}
-use Rattle.read_tables.specs.Access.{SignatureOf, as_entry, entry_of}
+use Rattle.read_tables.specs.Access.{SignatureOf, entry_of}
 use Rattle.read_tables.specs.Decode.{tally_in, entry_at, process_in, proc_declaration, proc_by, type_declaration, exec_declaration, numbered, script_in}
 use Rattle.read_tables.specs.Program.{program_in}
-use Rattle.read_tables.specs.declared.access.Declared.{Declared}
+use Rattle.notation.specs.declared.reading.ProcessEntry.{ProcessEntry}
 use Rattle.check_types.specs.Sought.{Sought, SoughtOn, sought_map, mapped, sought_start, sought_first, sought_on, sought_end, sought_past}
 use Rattle.check_terms.specs.Next.{context_in}
 use Rattle.check_declarations.specs.Sorted.{gather_append}
@@ -77,7 +77,7 @@ module _ (s w : List ℕ) where
       subst (λ o. TellsOf s o None) (sym (sought_past (sought_end t.rest (ap (warnings_from i) y)))) refl
 
   -- the process i
-  module _ (n k₀ i k : ℕ) (t : Seeking n k₀ i k) (l : i < n) (d : Declared) (g : SignatureOf w i d) where
+  module _ (n k₀ i k : ℕ) (t : Seeking n k₀ i k) (l : i < n) (d : ProcessEntry) (g : SignatureOf w i d) where
     own_fine : check_declaration (program_in s w) (proc_declaration s w i) ≡ fine
     own_fine = ((then_law Iff.rfl Iff.rfl).0 (sym (checking_here s w n i t.checks l) ∙ t.fine)).0
 
@@ -92,7 +92,7 @@ module _ (s w : List ℕ) where
         by false e = ltb-false held_limit _ e
 
     -- what its signature has it hold
-    module _ (h : Held) (f : SignatureHeld s w (as_entry d) h) where
+    module _ (h : Held) (f : SignatureHeld s w d h) where
       pub seek_fine : check (program_in s w) (context_in s w h) (process_in s w d.body) ≡ fine
       seek_fine = body_checked s w i d g h seek_room f refl ∙ own_fine
 

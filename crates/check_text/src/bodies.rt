@@ -5,7 +5,7 @@ ghost use Rattle.calculus.specs.Checking.{check_declaration, typed};
 ghost use Rattle.calculus.specs.Declarations.{declared};
 ghost use Rattle.calculus.specs.Verdict.{and_then};
 ghost use Rattle.calculus.specs.Verdict.{verdict_of};
-ghost use Rattle.read_tables.specs.Access.{as_entry, sum_limit};
+ghost use Rattle.read_tables.specs.Access.{sum_limit};
 ghost use Rattle.read_tables.specs.Decode.{tally_in, proc_declaration, script_in};
 ghost use Rattle.read_tables.specs.Program.{program_in};
 ghost use Rattle.read_tables.specs.Whole.{Tables, SignatureIn};
@@ -14,16 +14,17 @@ ghost use Rattle.check_text.specs.Bodies.{SignatureHeld};
 use check_contexts::signatures::with_entries;
 use check_declarations::verdict::declared_verdict;
 use check_processes::process::check_process;
+use notation::reading::ProcessEntry;
 use notation::refusal::Refusal;
 use notation::script::Script;
-use read_tables::access::{Declared, declared_process, entry, process_count};
+use read_tables::access::{declared_process, entry, process_count};
 use run_words::held::no_ends;
 use run_words::records::{Held, PROVIDED, USED};
 
 // What a process's signature has it hold: provided channels first.
-pub(crate) fn signature_held(text: &[u8], scratch: &[u32], e: Declared) -> Held
-    requires { Tables text.now scratch.now × SignatureIn text.now scratch.now (as_entry e) × (e.first + e.provided < sum_limit) × (e.provided ≤ held_limit) × (e.used ≤ held_limit - e.provided) }
-    ensures { SignatureHeld text.now scratch.now (as_entry e) result }
+pub(crate) fn signature_held(text: &[u8], scratch: &[u32], e: ProcessEntry) -> Held
+    requires { Tables text.now scratch.now × SignatureIn text.now scratch.now e × (e.first + e.provided < sum_limit) × (e.provided ≤ held_limit) × (e.used ≤ held_limit - e.provided) }
+    ensures { SignatureHeld text.now scratch.now e result }
 {
     let none = no_ends();
     let provided = with_entries(scratch, none, e.first, e.provided, PROVIDED);
@@ -48,7 +49,7 @@ fn check_body(text: &[u8], scratch: &[u32], i: usize) -> Result<(), Refusal>
 }
 
 // A signature has more than 16 names.
-fn has_seventeenth(e: Declared) -> bool
+fn has_seventeenth(e: ProcessEntry) -> bool
     ensures { result ≡ ltb held_limit (e.provided + e.used) }
 {
     Script::HELD < e.provided || Script::HELD - e.provided < e.used

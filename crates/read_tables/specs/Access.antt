@@ -11,7 +11,6 @@ use Rattle.notation.specs.declared.reading.TypeNode.{TypeNode}
 use Rattle.notation.specs.declared.reading.TermNode.{TermNode}
 use Rattle.notation.specs.declared.reading.ProcessEntry.{ProcessEntry}
 use Rattle.read_tables.specs.declared.access.Labelled.{Labelled}
-use Rattle.read_tables.specs.declared.access.Declared.{Declared}
 use Rattle.read_tables.specs.Decode.{tally_in, pair_of, node_at, term_at, alternative_at, branch_at, entry_at, type_at, process_at, exec_at, type_in, process_in}
 use Rattle.read_tables.specs.Program.{plain_in, signature_of, named_type, named_process, exec_in}
 use Rattle.read_tables.specs.Roots.{TypeIn, TypeRoot, type_root, AlternativesIn, FirstAlternative, first_alternative, ProcessIn, ProcessRoot, process_root, BranchesIn, FirstBranch, first_branch}
@@ -21,9 +20,6 @@ use Rattle.read_tables.specs.Whole.{EntriesIn, FirstEntry, first_entry, Signatur
 pub record Holds (r : Labelled) (p : ℕ × ℕ) : Type 0 where
   pub at : r.at ≡ p.0
   pub number : r.number ≡ p.1
-
-abbrev pub as_entry : Declared → ProcessEntry
-as_entry r = process_entry r.at r.first r.provided r.used r.body
 
 -- the type at i begins as the node n says
 pub record NodeOf (w : List ℕ) (i : ℕ) (n : TypeNode) : Type 0 where
@@ -64,12 +60,12 @@ abbrev pub sum_limit : ℕ
 sum_limit = 8589934592
 
 -- r is the process i of the program
-pub record SignatureOf (w : List ℕ) (i : ℕ) (r : Declared) : Type 0 where
-  pub is : (s : List ℕ) → named_process s w i ≡ (name_at s r.at, signature_of s w (as_entry r))
-  pub stands : (s : List ℕ) → Tables s w → i < (tally_in w).processes → SignatureIn s w (as_entry r)
+pub record SignatureOf (w : List ℕ) (i : ℕ) (r : ProcessEntry) : Type 0 where
+  pub is : (s : List ℕ) → named_process s w i ≡ (name_at s r.at, signature_of s w r)
+  pub stands : (s : List ℕ) → Tables s w → i < (tally_in w).processes → SignatureIn s w r
   -- its entries have places that can be counted
   pub small : r.first + r.provided < sum_limit
-  pub holds : as_entry r ≡ process_at w i
+  pub holds : r ≡ process_at w i
 
 -- r is where the name of the exec i stands
 pub record ExecOf (w : List ℕ) (i : ℕ) (r : ℕ) : Type 0 where
@@ -110,7 +106,7 @@ module _ (w : List ℕ) where
   unfolding named_type
   type_of i r h = record { is = λ s j. (name_at s (sym h.at j), plain_in s w (sym h.number j)); stands = λ s t b. back h.number (TypeIn s w) (t.types i b); holds = h }
 
-  pub signature_of_lem : (i : ℕ) (r : Declared) → as_entry r ≡ process_at w i → r.first + r.provided < sum_limit → SignatureOf w i r
+  pub signature_of_lem : (i : ℕ) (r : ProcessEntry) → r ≡ process_at w i → r.first + r.provided < sum_limit → SignatureOf w i r
   unfolding named_process
   signature_of_lem i r h b = record {
     is = λ s j. (name_at s (sym h j).at, signature_of s w (sym h j));

@@ -5,7 +5,7 @@ ghost use Rattle.notation.specs.Limits.{exec_limit, process_term_limit, type_ter
 ghost use Rattle.read_tables.specs.Access.{Holds, NodeOf, TermOf, AlternativeOf, BranchOf, EntryOf, TypeOf, SignatureOf, ExecOf};
 ghost use Rattle.read_tables.specs.Decode.{tally_in, pair_of};
 
-use notation::reading::{TermNode, TypeNode};
+use notation::reading::{ProcessEntry, TermNode, TypeNode};
 use notation::tables::{
     ALTERNATIVES_AT, BRANCHES_AT, ENTRIES_AT, EXECS_AT, NODES_AT, OFFSET_RADIX, POINTER_RADIX,
     PROCESSES_AT, PROVIDED_RADIX, TERM_FIRST_UNIT, TERM_KIND_RADIX, TERMS_AT, TYPE_FIRST_RADIX,
@@ -163,24 +163,14 @@ pub fn declared_type(scratch: &[u32], i: usize) -> Labelled
     }
 }
 
-// A process's entry: its name, its first signature entry, how many it provides and uses, its body.
-#[derive(Clone, Copy)]
-pub struct Declared {
-    pub at: usize,
-    pub first: usize,
-    pub provided: usize,
-    pub used: usize,
-    pub body: usize,
-}
-
 // The process i.
-pub fn declared_process(scratch: &[u32], i: usize) -> Declared
+pub fn declared_process(scratch: &[u32], i: usize) -> ProcessEntry
     requires { Area scratch.now × (i < process_limit) }
     ensures { SignatureOf scratch.now i result }
 {
     let named = two_words(scratch, PROCESSES_AT + PROCESS_WORDS * i);
     let counted = two_words(scratch, PROCESSES_AT + PROCESS_WORDS * i + 2);
-    Declared {
+    ProcessEntry {
         at: named.first,
         first: named.second,
         provided: counted.first % PROVIDED_RADIX,

@@ -16,7 +16,7 @@ use Rattle.calculus.specs.Typing.{names_of}
 use Rattle.calculus.specs.Configuration.{End, end, goes_on, replaced}
 use Rattle.calculus.specs.Steps.{Outcome, renamed_end, renamed, entering, calling}
 use Rattle.calculus.specs.declared.answers.Seen.TheVariants as Seen
-use Rattle.read_tables.specs.Access.{EntryOf, entry_there, as_entry, SignatureOf}
+use Rattle.read_tables.specs.Access.{EntryOf, entry_there, SignatureOf}
 use Rattle.read_tables.specs.Decode.{tally_in, entries_in, process_in, arguments_at}
 use Rattle.read_tables.specs.Names.{argument_from, NamesFrom, CallAt}
 use Rattle.read_tables.specs.Program.{plain_in, program_in, signature_of, named_process}
@@ -24,7 +24,7 @@ use Rattle.read_tables.specs.Search.{place_of, Sought}
 use Rattle.read_tables.specs.Roots.{TypeIn}
 use Rattle.read_tables.specs.Whole.{EntriesIn, FirstEntry, SignatureIn, Tables}
 use Rattle.read_tables.specs.declared.access.Labelled.{Labelled}
-use Rattle.read_tables.specs.declared.access.Declared.{Declared}
+use Rattle.notation.specs.declared.reading.ProcessEntry.{ProcessEntry}
 use Rattle.read_tables.specs.declared.arguments.Argument.TheVariants as arguments
 use Rattle.run_words.specs.Raw.{side_of}
 use Rattle.run_words.specs.declared.records.End.{End as EndWords}
@@ -138,8 +138,8 @@ module _ (s w : List ℕ) (h r₀ : Held) (from side i₀ n₀ : ℕ) where
         }
 
 -- ── the whole of what a call enters with
-pub record EntersCall (s w : List ℕ) (h : Held) (bracket : ℕ) (d : Declared) (q : Held) : Type 0 where
-  pub is : (xs ys : List Located) → CallAt s bracket xs ys → length xs ≡ d.provided → channels_of s w q ≡ renamed (names_of xs ++ names_of ys) (signature_context (signature_of s w (as_entry d))) (channels_of s w h)
+pub record EntersCall (s w : List ℕ) (h : Held) (bracket : ℕ) (d : ProcessEntry) (q : Held) : Type 0 where
+  pub is : (xs ys : List Located) → CallAt s bracket xs ys → length xs ≡ d.provided → channels_of s w q ≡ renamed (names_of xs ++ names_of ys) (signature_context (signature_of s w d)) (channels_of s w h)
   pub fits : HeldIn s w q
 
 renamed_both : (xs : List Name) (ys : List Name) (G H : Context) (l : List (Name × End)) → length xs ≡ length G → renamed (xs ++ ys) (G ++ H) l ≡ renamed xs G l ++ renamed ys H l
@@ -164,7 +164,7 @@ unfolding entries_in
 context_many s w side i zero = refl
 context_many s w side i (suc n) = ap suc (context_many s w side (i + 1) n)
 
-module _ (s w : List ℕ) (h : Held) (bracket : ℕ) (d : Declared) (from used middle : ℕ) (none first q : Held) where
+module _ (s w : List ℕ) (h : Held) (bracket : ℕ) (d : ProcessEntry) (from used middle : ℕ) (none first q : Held) where
   pub enters_call : channels_of s w none ≡ [] → from ≡ (token_at s bracket).end → Ends s from middle → used ≡ (token_at s middle).end
       → EntersList s w h none from 0 d.first d.provided first → EntersList s w h first used 1 (d.first + d.provided) d.used q → EntersCall s w h bracket d q
   unfolding signature_of
@@ -193,11 +193,11 @@ module _ (s w old : List ℕ) (i : ℕ) (p : ProcessWords) (name bracket : ℕ) 
   unfolding calling
   calls_nothing e = subst (λ o. Carries s w old old NotOpen (entering (config_in s w old) i (process_as s w p) (names_of (arguments_at s bracket).0 ++ names_of (arguments_at s bracket).1) o)) (sym (a.is ∙ ap (λ x. map (λ j. (named_process s w j).1) (place_of x)) e)) (record { is = (refl, refl) })
 
-  module _ (k : ℕ) (e : f ≡ Some k) (d : Declared) (b : SignatureOf w k d) (t : Tables s w) (c : CallIn s w name bracket) where
-    declared_is : lookup (name_at s name) (program_in s w).processes ≡ some (signature_of s w (as_entry d))
+  module _ (k : ℕ) (e : f ≡ Some k) (d : ProcessEntry) (b : SignatureOf w k d) (t : Tables s w) (c : CallIn s w name bracket) where
+    declared_is : lookup (name_at s name) (program_in s w).processes ≡ some (signature_of s w d)
     declared_is = a.is ∙ ap (λ x. map (λ j. (named_process s w j).1) (place_of x)) e ∙ ap (λ x. some x.1) (b.is s)
 
-    pub signature_in : SignatureIn s w (as_entry d)
+    pub signature_in : SignatureIn s w d
     signature_in = b.stands s t (a.below k e)
 
     pub provided_many : length (arguments_at s bracket).0 ≡ d.provided

@@ -3,7 +3,6 @@ ghost use Rattle.run_words.specs.Raw.{side_radix};
 ghost use Rattle.notation.specs.Limits.{held_limit, text_limit, type_term_limit};
 ghost use Rattle.std.specs.Prelude.{◌≡◌, ◌+◌, ◌≤◌, ◌<◌};
 ghost use Rattle.read_tables.specs.Roots.{TypeIn};
-ghost use Rattle.read_tables.specs.Access.{as_entry};
 ghost use Rattle.read_tables.specs.Whole.{EntriesIn, SignatureIn, Tables};
 ghost use Rattle.check_contexts.specs.Held.{HeldIn};
 ghost use Rattle.check_contexts.specs.Walks.{Walking, Whatever};
@@ -14,7 +13,8 @@ use crate::outcome::Outcome;
 use calculus::answers::Seen;
 use check_contexts::held::{bring_end, find_end};
 use check_contexts::names::list_end;
-use read_tables::access::{Declared, declared_process, entry};
+use notation::reading::ProcessEntry;
+use read_tables::access::{declared_process, entry};
 use read_tables::arguments::{Argument, list_start, next_argument};
 use read_tables::search::find_process;
 use run_words::held::no_ends;
@@ -101,8 +101,8 @@ fn past_entries(first: usize, n: usize) -> usize
 }
 
 // The channels that h holds under the names of a call's lists, under those of the signature of d.
-fn enter_call(text: &[u8], scratch: &[u32], h: Held, bracket: usize, d: Declared) -> Held
-    requires tables { Tables text.now scratch.now × SignatureIn text.now scratch.now (as_entry d) }
+fn enter_call(text: &[u8], scratch: &[u32], h: Held, bracket: usize, d: ProcessEntry) -> Held
+    requires tables { Tables text.now scratch.now × SignatureIn text.now scratch.now d }
     requires held_in { HeldIn text.now scratch.now h }
     requires used_bound { d.provided + d.used ≤ held_limit }
     ensures { EntersCall text.now scratch.now h bracket d result }

@@ -17,14 +17,14 @@ use Rattle.calculus.specs.Types.{provided}
 use Rattle.calculus.specs.Program.{Signature, entries}
 use Rattle.calculus.specs.Configuration.{End, end, running, process, Outside, config}
 use Rattle.calculus.specs.Runs.{start_held, start_outside, start_config, line_signature, exec_of}
-use Rattle.read_tables.specs.Access.{EntryOf, as_entry, SignatureOf, ExecOf}
+use Rattle.read_tables.specs.Access.{EntryOf, SignatureOf, ExecOf}
 use Rattle.read_tables.specs.Decode.{tally_in, entry_at, entries_in, process_in, numbered}
 use Rattle.read_tables.specs.Program.{plain_in, signature_of, program_in, named_process, exec_in, execs_in}
 use Rattle.read_tables.specs.Roots.{TypeIn}
 use Rattle.read_tables.specs.Search.{place_of, Sought}
 use Rattle.read_tables.specs.Whole.{SignatureIn, Tables}
 use Rattle.read_tables.specs.declared.access.Labelled.{Labelled}
-use Rattle.read_tables.specs.declared.access.Declared.{Declared}
+use Rattle.notation.specs.declared.reading.ProcessEntry.{ProcessEntry}
 use Rattle.run_words.specs.Lists.{tab, All}
 use Rattle.run_words.specs.ListLaws.{length_tab, tab_same, tab_append, map_tab}
 use Rattle.run_words.specs.Raw.{RawEnd, RawProcess, RawOutside, RawConfig, BoundedEnd, Bounded, raw_in, running_kind, raw_process}
@@ -176,15 +176,15 @@ module _ (s w : List ℕ) where
   started_outside : (i n : ℕ) → map (decoded_outside (name_at s) (plain_in s w) (process_in s w)) (tab (start_channel w i) n) ≡ start_outside 0 (entries (entries_in s w i n))
   started_outside i n = map_tab (decoded_outside (name_at s) (plain_in s w) (process_in s w)) (start_channel w i) n ∙ from_zero outside_by i n ∙ outside_from i 0 n
 
-module _ (s w : List ℕ) (t : Tables s w) (d : Declared) (a : SignatureIn s w (as_entry d)) where
+module _ (s w : List ℕ) (t : Tables s w) (d : ProcessEntry) (a : SignatureIn s w d) where
   abbrev raw : RawConfig
   raw = start_raw w d.first d.provided d.body
 
-  started_is : decoded (name_at s) (plain_in s w) (process_in s w) raw ≡ start_config (signature_of s w (as_entry d))
+  started_is : decoded (name_at s) (plain_in s w) (process_in s w) raw ≡ start_config (signature_of s w d)
   unfolding start_config signature_of
   started_is = λ j. config (process (running (process_in s w d.body)) (started_held s w d.first d.provided j) none ∷ []) (started_outside s w d.first d.provided j) (sym (entries_many s w d.first d.provided) j)
 
-  pub becomes_start : (old new : List ℕ) → d.provided ≤ held_limit → run_words ≤ length old → Changed old new raw → Bounded (raw_in new) → Becomes s w old new (start_config (signature_of s w (as_entry d)))
+  pub becomes_start : (old new : List ℕ) → d.provided ≤ held_limit → run_words ≤ length old → Changed old new raw → Bounded (raw_in new) → Becomes s w old new (start_config (signature_of s w d))
   becomes_start old new m l c b = record {
     is = ap (decoded (name_at s) (plain_in s w) (process_in s w)) c.is ∙ started_is;
     run = record {
@@ -206,11 +206,11 @@ module _ (s w old : List ℕ) (line at : ℕ) (h : line < (tally_in w).execs) (o
   pub begins_nothing : f ≡ None → Begins s w old old false (exec_of (program_in s w) line)
   begins_nothing e = subst (Begins s w old old false) (sym (exec_line s w line at h o ∙ a.is ∙ ap (λ x. Option.map (λ j. (named_process s w j).1) (place_of x)) e)) (record { is = (refl, refl) })
 
-  module _ (k : ℕ) (e : f ≡ Some k) (d : Declared) (b : SignatureOf w k d) (t : Tables s w) (c : SmallSignatures (program_in s w)) where
-    found_is : lookup (name_at s at) (program_in s w).processes ≡ some (signature_of s w (as_entry d))
+  module _ (k : ℕ) (e : f ≡ Some k) (d : ProcessEntry) (b : SignatureOf w k d) (t : Tables s w) (c : SmallSignatures (program_in s w)) where
+    found_is : lookup (name_at s at) (program_in s w).processes ≡ some (signature_of s w d)
     found_is = a.is ∙ ap (λ x. Option.map (λ j. (named_process s w j).1) (place_of x)) e ∙ ap (λ x. some x.1) (b.is s)
 
-    pub start_signature : SignatureIn s w (as_entry d)
+    pub start_signature : SignatureIn s w d
     start_signature = b.stands s t (a.below k e)
 
     pub start_few : d.provided ≤ held_limit

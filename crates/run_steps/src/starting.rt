@@ -14,7 +14,8 @@ ghost use Rattle.run_steps.specs.Dispatch.{SmallSignatures};
 ghost use Rattle.run_steps.specs.Starting.{start_channel, start_raw, Begins};
 
 use check_contexts::signatures::with_entries;
-use read_tables::access::{Declared, declared_process, entry, exec_at, exec_count};
+use notation::reading::ProcessEntry;
+use read_tables::access::{declared_process, entry, exec_at, exec_count};
 use read_tables::search::find_process;
 use run_words::held::no_ends;
 use run_words::outside::{append_outside, set_given};
@@ -42,7 +43,7 @@ fn use_channels(scratch: &[u32], run: &mut [u32], first: usize, n: usize)
 }
 
 // The run of a process alone, with what it provides, which the outside uses.
-fn begin_process(scratch: &[u32], run: &mut [u32], d: Declared)
+fn begin_process(scratch: &[u32], run: &mut [u32], d: ProcessEntry)
     requires area { Area scratch.now × EntriesFit scratch.now d.first d.provided × (d.provided ≤ held_limit) × (d.body < pointer_limit) }
     requires run_words_in_bounds { run_words ≤ length run.old }
     ensures changed { Changed run.old run.new (start_raw scratch.now d.first d.provided d.body) }

@@ -48,7 +48,7 @@ fn enter(text: &[u8], scratch: &[u32], seen: &mut [u32; KEYS], e: End) -> bool
     requires kept { Kept scratch.now seen.old }
     requires node { Node scratch.now e.node × (e.channel < channel_places) × (e.side < side_radix) }
     ensures entered { Entered text.now scratch.now seen.old seen.new (end_in e ∷ []) result }
-    ensures kept_2 { Kept scratch.now seen.new }
+    ensures still_kept { Kept scratch.now seen.new }
 {
     let here = place(e.channel, e.side);
     if seen[here] != 0 {
@@ -69,7 +69,7 @@ fn enter_held(text: &[u8], scratch: &[u32], seen: &mut [u32; KEYS], h: Held) -> 
     requires kept { Kept scratch.now seen.old }
     requires count_le_held_limit { (h.count ≤ held_limit) × All (EndOf scratch.now) (held_in h) }
     ensures entered { Entered text.now scratch.now seen.old seen.new (held_in h) result }
-    ensures kept_2 { Kept scratch.now seen.new }
+    ensures still_kept { Kept scratch.now seen.new }
 {
     for k in 0..h.count {
         if !enter(text, scratch, seen, end_at(h, k)) {
@@ -86,7 +86,7 @@ fn enter_processes(text: &[u8], scratch: &[u32], seen: &mut [u32; KEYS], run: &[
     requires run_words_in_bounds { run_words ≤ length run.now }
     requires bounded { Bounded (raw_in run.now) × OfText scratch.now (raw_in run.now) }
     ensures entered { Entered text.now scratch.now seen.old seen.new (process_ends (raw_in run.now).processes) result }
-    ensures kept_2 { Kept scratch.now seen.new }
+    ensures still_kept { Kept scratch.now seen.new }
 {
     let n = count(run);
     for i in 0..n {

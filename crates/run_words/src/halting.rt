@@ -21,7 +21,7 @@ pub fn set_halted(run: &mut [u32])
     requires run_words_in_bounds { run_words ≤ length run.old }
     requires bounded { Bounded (raw_in run.old) }
     ensures changed { Changed run.old run.new (with_halted (raw_in run.old) 1) }
-    ensures bounded_2 { Bounded (raw_in run.new) }
+    ensures still_bounded { Bounded (raw_in run.new) }
 {
     run[HALTED] = 1;
 }

@@ -34,7 +34,7 @@ pub fn set_given(run: &mut [u32], n: u32)
     requires bounded { Bounded (raw_in run.old) }
     requires n_le_outside_numbers { n ≤ outside_numbers }
     ensures changed { Changed run.old run.new (with_given (raw_in run.old) n) }
-    ensures bounded_2 { Bounded (raw_in run.new) }
+    ensures still_bounded { Bounded (raw_in run.new) }
 {
     run[GIVEN] = n;
 }
@@ -97,7 +97,7 @@ fn set_outside(run: &mut [u32], k: usize, o: Outside)
     requires k_in_bounds { k < length (raw_in run.old).outside }
     requires bounded_outside { BoundedOutside (outside_in o) }
     ensures changed { Changed run.old run.new (on_outside (λ l. set l k (outside_in o)) (raw_in run.old)) }
-    ensures bounded_2 { Bounded (raw_in run.new) }
+    ensures still_bounded { Bounded (raw_in run.new) }
 {
     put_outside(run, k, o);
 }
@@ -109,7 +109,7 @@ pub fn append_outside(run: &mut [u32], o: Outside)
     requires run_len_bound { length (raw_in run.old).outside < outside_numbers }
     requires bounded_outside { BoundedOutside (outside_in o) }
     ensures changed { Changed run.old run.new (on_outside (λ l. l ++ (outside_in o ∷ [])) (raw_in run.old)) }
-    ensures bounded_2 { Bounded (raw_in run.new) }
+    ensures still_bounded { Bounded (raw_in run.new) }
 {
     let n = outside_count(run);
     put_outside(run, n, o);
@@ -121,7 +121,7 @@ pub fn let_go(run: &mut [u32], channel: u32)
     requires run_words_in_bounds { run_words ≤ length run.old }
     requires bounded { Bounded (raw_in run.old) }
     ensures changed { Changed run.old run.new (on_outside (let_go channel) (raw_in run.old)) }
-    ensures bounded_2 { Bounded (raw_in run.new) }
+    ensures still_bounded { Bounded (raw_in run.new) }
 {
     let mut j: usize = 0;
     for k in 0..outside_count(run) {
@@ -150,7 +150,7 @@ fn change_outside(run: &mut [u32], channel: u32, change: Change)
     requires bounded { Bounded (raw_in run.old) }
     requires bounded_outside { (o : RawOutside) → BoundedOutside o → BoundedOutside (changed_by change o) }
     ensures changed { Changed run.old run.new (on_outside (changed_outside channel (changed_by change)) (raw_in run.old)) }
-    ensures bounded_2 { Bounded (raw_in run.new) }
+    ensures still_bounded { Bounded (raw_in run.new) }
 {
     if let Some(k) = find_outside(run, channel) {
         let o = outside_at(run, k);
@@ -164,7 +164,7 @@ pub fn retype_outside(run: &mut [u32], channel: u32, node: u32)
     requires bounded { Bounded (raw_in run.old) }
     requires node_lt_type_term_limit { node < type_term_limit }
     ensures changed { Changed run.old run.new (on_outside (changed_outside channel (retyped node)) (raw_in run.old)) }
-    ensures bounded_2 { Bounded (raw_in run.new) }
+    ensures still_bounded { Bounded (raw_in run.new) }
 {
     change_outside(run, channel, Change::Node(node));
 }
@@ -175,7 +175,7 @@ pub fn reroute_outside(run: &mut [u32], channel: u32, target: u32)
     requires bounded { Bounded (raw_in run.old) }
     requires target_lt_channel_places { target < channel_places }
     ensures changed { Changed run.old run.new (on_outside (changed_outside channel (rerouted target)) (raw_in run.old)) }
-    ensures bounded_2 { Bounded (raw_in run.new) }
+    ensures still_bounded { Bounded (raw_in run.new) }
 {
     change_outside(run, channel, Change::Channel(target));
 }

@@ -58,7 +58,7 @@ pub fn insert(run: &mut [u32], i: usize, p: Process)
     requires i_in_bounds { (i < length (raw_in run.old).processes) × (length (raw_in run.old).processes < process_places) }
     requires bounded_process { BoundedProcess (suc (length (raw_in run.old).processes)) (process_in p) }
     ensures changed { Changed run.old run.new (on_processes (inserted i (process_in p)) (raw_in run.old)) }
-    ensures bounded_2 { Bounded (raw_in run.new) }
+    ensures still_bounded { Bounded (raw_in run.new) }
 {
     let n = count(run);
     relink(run, i, true);
@@ -79,7 +79,7 @@ pub fn remove(run: &mut [u32], i: usize)
     requires i_in_bounds { i < length (raw_in run.old).processes }
     requires unlinked { Unlinked i (raw_in run.old).processes }
     ensures changed { Changed run.old run.new (on_processes (removed i) (raw_in run.old)) }
-    ensures bounded_2 { Bounded (raw_in run.new) }
+    ensures still_bounded { Bounded (raw_in run.new) }
 {
     let n = count(run);
     relink(run, i, false);

@@ -105,7 +105,7 @@ pub fn store(run: &mut [u32], i: usize, p: Process)
     requires i_in_bounds { i < length (raw_in run.old).processes }
     requires bounded_process { BoundedProcess (length (raw_in run.old).processes) (process_in p) }
     ensures changed { Changed run.old run.new (on_processes (λ l. set l i (process_in p)) (raw_in run.old)) }
-    ensures bounded_2 { Bounded (raw_in run.new) }
+    ensures still_bounded { Bounded (raw_in run.new) }
 {
     put(run, PLACES_AT + PLACE_WORDS * i, p);
 }

@@ -3,7 +3,6 @@ use native.Mathlib.Omega.{arith}
 use Prim.Native.Nat.{◌+◌}
 use borrow.Author.Tests.{ltb-true, ltb-false}
 use Rattle.notation.specs.Limits.{held_limit}
-use Rattle.read_tables.specs.Access.{as_entry}
 use Rattle.check_text.specs.Bodies.{seventeenth_entry, body_named, body_checked}
 use Rattle.check_text.proofs.bodies.check_body.Goals as goal
 
@@ -15,7 +14,7 @@ overflow_add-e c =
     let declared-process = c.declared_process-e in
     omega (
       arith,
-      (seventeenth_entry c.args.text.now c.args.scratch.now (as_entry declared-process.result)
+      (seventeenth_entry c.args.text.now c.args.scratch.now declared-process.result
           (declared-process.ensures.stands c.args.text.now c.requires.0 c.requires.1) c.requires.0
           (ltb-true held_limit (declared-process.result.provided + declared-process.result.used) (sym c.has_seventeenth.ensures ∙ c.if-has_seventeenth.true))),
     )
@@ -24,7 +23,7 @@ pub entry-t-requires : goal.entry-t-requires
 entry-t-requires c =
     let declared-process = c.declared_process-e in (
       c.requires.0.area,
-      (seventeenth_entry c.args.text.now c.args.scratch.now (as_entry declared-process.result)
+      (seventeenth_entry c.args.text.now c.args.scratch.now declared-process.result
           (declared-process.ensures.stands c.args.text.now c.requires.0 c.requires.1) c.requires.0
           (ltb-true held_limit (declared-process.result.provided + declared-process.result.used) (sym c.has_seventeenth.ensures ∙ c.if-has_seventeenth.true))),
     )

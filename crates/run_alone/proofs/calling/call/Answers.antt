@@ -48,4 +48,4 @@ returns c =
     c.requires.call_in _ enter-call.result enter-call.ensures (stored text scratch run _ c.requires.run_of place _
     (runs_on c.requires.run_of.tables (running_on declared-process.result.body enter-call.result c.args.p) refl c.requires.stands_at.is.link
     (signature_in text scratch run place p c.args.name c.args.bracket find-process.ensures _ c.in-Some.is declared-process.result declared-process.ensures
-    c.requires.run_of.tables c.requires.call_in).body enter-call.ensures.fits) c.store.ensures.changed c.store.ensures.bounded_2)
+    c.requires.run_of.tables c.requires.call_in).body enter-call.ensures.fits) c.store.ensures.changed c.store.ensures.still_bounded)

@@ -20,10 +20,10 @@ pub returns-in-Outside : goal.returns-in-Outside
 returns-in-Outside c =
     let fits = c.emptied-q.ensures.fits c.args.text.now c.args.scratch.now _ c.requires.stands_at.is in
     joined_outside c.args.text.now c.args.scratch.now c.args.run.now _ c.args.place c.args.p _ c.args.e c.args.d c.emptied-q.ensures _ _ c.in-Outside.ensures
-    (stored c.args.text.now c.args.scratch.now c.args.run.now _ c.requires.run_of c.args.place _ fits c.store.ensures.changed c.store.ensures.bounded_2) c.reroute_outside.ensures.changed c.reroute_outside.ensures.bounded_2
+    (stored c.args.text.now c.args.scratch.now c.args.run.now _ c.requires.run_of c.args.place _ fits c.store.ensures.changed c.store.ensures.still_bounded) c.reroute_outside.ensures.changed c.reroute_outside.ensures.still_bounded
 
 pub returns-in-GivenUp : goal.returns-in-GivenUp
 returns-in-GivenUp c =
     let fits = c.emptied-q.ensures.fits c.args.text.now c.args.scratch.now _ c.requires.stands_at.is in
     joined_nobody c.args.text.now c.args.scratch.now c.args.run.now _ c.args.place c.args.p _ c.args.e c.args.d c.emptied-q.ensures c.in-GivenUp.ensures
-    (stored c.args.text.now c.args.scratch.now c.args.run.now _ c.requires.run_of c.args.place _ fits c.store-in-GivenUp.ensures.changed c.store-in-GivenUp.ensures.bounded_2)
+    (stored c.args.text.now c.args.scratch.now c.args.run.now _ c.requires.run_of c.args.place _ fits c.store-in-GivenUp.ensures.changed c.store-in-GivenUp.ensures.still_bounded)

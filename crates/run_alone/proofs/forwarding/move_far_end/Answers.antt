@@ -62,11 +62,11 @@ store-requires-2-clause-run_words_in_bounds c =
     let q = c.args.q in
     let d = c.args.d in
     (mid_becomes text scratch run e j k c.requires.e_value c.requires.run_of place q c.load-r.result c.end_at-x.result d c.replaced-held.result _ c.requires.process_of c.store.ensures.changed
-    c.store.ensures.bounded_2).run.wide
+    c.store.ensures.still_bounded).run.wide
 
 pub store-requires-2-clause-bounded : goal.store-requires-2-clause-bounded
 store-requires-2-clause-bounded c =
-    c.store.ensures.bounded_2
+    c.store.ensures.still_bounded
 
 pub store-requires-2-clause-i_in_bounds : goal.store-requires-2-clause-i_in_bounds
 store-requires-2-clause-i_in_bounds c =
@@ -82,7 +82,7 @@ store-requires-2-clause-i_in_bounds c =
     omega (
       arith,
       mid_many text scratch run e j k c.requires.e_value c.requires.run_of place q c.load-r.result c.end_at-x.result d
-          c.replaced-held.result _ c.requires.process_of c.store.ensures.changed c.store.ensures.bounded_2,
+          c.replaced-held.result _ c.requires.process_of c.store.ensures.changed c.store.ensures.still_bounded,
       far_place text scratch run e j k c.requires.e_value,
     )
 
@@ -100,7 +100,7 @@ store-requires-2-clause-bounded_process c =
     let stands = loaded _ _ c.load-r.result c.requires.run_of (c.load-r.ensures.i_value, (c.load-r.ensures.bounded_process, c.load-r.ensures.count_le_held_limit)) in bounded_of text scratch (subst
     (λ n. ProcessOf text scratch n (regained text scratch run e j k c.requires.e_value c.requires.run_of place q c.load-r.result c.end_at-x.result d c.replaced-held.result))
     (sym (mid_many text scratch run e j k c.requires.e_value c.requires.run_of place q c.load-r.result c.end_at-x.result d c.replaced-held.result _ c.requires.process_of c.store.ensures.changed
-    c.store.ensures.bounded_2)) (regained_of text scratch run e j k c.requires.e_value c.requires.run_of place q c.load-r.result c.end_at-x.result d c.replaced-held.result stands (far_held text scratch
+    c.store.ensures.still_bounded)) (regained_of text scratch run e j k c.requires.e_value c.requires.run_of place q c.load-r.result c.end_at-x.result d c.replaced-held.result stands (far_held text scratch
     run e j k c.requires.e_value c.load-r.result c.load-r.ensures.i_value c.end_at-x.result c.end_at-x.ensures.k_value d.channel _ c.replaced-held.ensures.result_value c.replaced-held.ensures.count_value stands.is.held
     c.requires.channel_lt_channel_places)))
 
@@ -117,10 +117,10 @@ returns c =
     let d = c.args.d in
     let stands = loaded _ _ c.load-r.result c.requires.run_of (c.load-r.ensures.i_value, (c.load-r.ensures.bounded_process, c.load-r.ensures.count_le_held_limit)) in
     moves_far text scratch run e j k c.requires.e_value c.requires.run_of place q c.load-r.result c.end_at-x.result d c.replaced-held.result _ c.requires.process_of c.store.ensures.changed
-    c.store.ensures.bounded_2 _ (subst (λ n. ProcessOf text scratch n (regained text scratch run e j k c.requires.e_value c.requires.run_of place q c.load-r.result c.end_at-x.result d
+    c.store.ensures.still_bounded _ (subst (λ n. ProcessOf text scratch n (regained text scratch run e j k c.requires.e_value c.requires.run_of place q c.load-r.result c.end_at-x.result d
     c.replaced-held.result)) (sym (mid_many text scratch run e j k c.requires.e_value c.requires.run_of place q c.load-r.result c.end_at-x.result d c.replaced-held.result _ c.requires.process_of
-    c.store.ensures.changed c.store.ensures.bounded_2)) (regained_of text scratch run e j k c.requires.e_value c.requires.run_of place q c.load-r.result c.end_at-x.result d c.replaced-held.result stands
+    c.store.ensures.changed c.store.ensures.still_bounded)) (regained_of text scratch run e j k c.requires.e_value c.requires.run_of place q c.load-r.result c.end_at-x.result d c.replaced-held.result stands
     (far_held text scratch run e j k c.requires.e_value c.load-r.result c.load-r.ensures.i_value c.end_at-x.result c.end_at-x.ensures.k_value d.channel _ c.replaced-held.ensures.result_value c.replaced-held.ensures.count_value
     stands.is.held c.requires.channel_lt_channel_places))) (far_moved_lem text scratch run e j k c.requires.e_value c.load-r.result c.load-r.ensures.i_value c.end_at-x.result c.end_at-x.ensures.k_value d.channel
     _ c.replaced-held.ensures.result_value) (far_holder text scratch run e j k c.requires.e_value c.load-r.result c.load-r.ensures.i_value c.end_at-x.result c.end_at-x.ensures.k_value)
-    c.store-2.ensures.changed c.store-2.ensures.bounded_2
+    c.store-2.ensures.changed c.store-2.ensures.still_bounded

@@ -54,4 +54,4 @@ returns c =
     handler_changed text scratch run _ c.requires.run_of c.args.starts c.args.link c.wide-place.result load.result
     (loaded _ _ load.result c.requires.run_of (load.ensures.i_value, (load.ensures.bounded_process, load.ensures.count_le_held_limit))) _
     c.handler_kind.ensures (handler_place text scratch run run c.requires.run_of c.args.starts c.args.link c.wide-place.result
-    c.if-link-eq-UNLINKED.false c.wide-place.ensures.value) c.store.ensures.changed c.store.ensures.bounded_2
+    c.if-link-eq-UNLINKED.false c.wide-place.ensures.value) c.store.ensures.changed c.store.ensures.still_bounded

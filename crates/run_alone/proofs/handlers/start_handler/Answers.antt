@@ -35,4 +35,4 @@ store-requires-clause-bounded_process c =
 pub returns : goal.returns
 returns c =
     handler_started c.args.text.now c.args.scratch.now c.args.run.now _ _ c.args.place c.args.p c.requires.process_of
-    c.change_handler.ensures c.store.ensures.changed c.store.ensures.bounded_2
+    c.change_handler.ensures c.store.ensures.changed c.store.ensures.still_bounded

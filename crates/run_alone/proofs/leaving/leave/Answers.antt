@@ -25,4 +25,4 @@ remove-requires-clause-unlinked c = unlinked_still c.args.text.now c.args.scratc
 pub returns : goal.returns
 returns c =
     leaves c.args.text.now c.args.scratch.now c.args.run.now _ _ c.args.place c.args.p c.change_handler.ensures
-    c.remove.ensures.changed c.remove.ensures.bounded_2
+    c.remove.ensures.changed c.remove.ensures.still_bounded

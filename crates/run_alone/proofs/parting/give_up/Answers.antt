@@ -9,4 +9,4 @@ pub outside_at-o-requires-clause-k_in_bounds : goal.outside_at-o-requires-clause
 outside_at-o-requires-clause-k_in_bounds c = outside_there_below c.args.text.now c.args.scratch.now c.args.run.now c.args.e _ (sym c.in-Outside.ensures)
 
 pub returns : goal.returns
-returns c = gives_outside c.args.text.now c.args.scratch.now c.args.run.now c.args.e _ _ c.outside_at-o.result c.requires.run_of (sym c.in-Outside.ensures) c.outside_at-o.ensures.k_value c.let_go.ensures.changed c.let_go.ensures.bounded_2
+returns c = gives_outside c.args.text.now c.args.scratch.now c.args.run.now c.args.e _ _ c.outside_at-o.result c.requires.run_of (sym c.in-Outside.ensures) c.outside_at-o.ensures.k_value c.let_go.ensures.changed c.let_go.ensures.still_bounded

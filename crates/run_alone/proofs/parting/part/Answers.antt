@@ -51,4 +51,4 @@ returns c =
     let run = c.args.run.now in
     parts text scratch run _ _ c.args.place c.args.p c.args.e _ give-up.ensures
     (subst (λ n. ProcessOf text scratch n c.args.p) (sym (places_after give-up.ensures.becomes ∙ places_in text scratch run)) c.requires.process_of) c.store.ensures.changed
-    c.store.ensures.bounded_2
+    c.store.ensures.still_bounded

@@ -13,7 +13,7 @@ returns-then-p-eq-UNLINKED c =
     let text = c.args.text.now in
     let scratch = c.args.scratch.now in
     let run = c.args.run.now in
-    uncaught text scratch run _ _ c.args.place _ c.args.p.link c.if-p-eq-UNLINKED.true (halted text scratch run _ c.requires.run_of c.set_halted.ensures.changed c.set_halted.ensures.bounded_2)
+    uncaught text scratch run _ _ c.args.place _ c.args.p.link c.if-p-eq-UNLINKED.true (halted text scratch run _ c.requires.run_of c.set_halted.ensures.changed c.set_halted.ensures.still_bounded)
 
 pub returns : goal.returns
 returns c = caught c.args.text.now c.args.scratch.now c.args.run.now _ _ c.args.place _ c.args.p.link c.if-p-eq-UNLINKED.false c.start_handler.ensures

@@ -44,11 +44,11 @@ insert-requires-clause-run_words_in_bounds c =
     let term = c.requires.spawn_in in
     let channel = c.args.channel in
     let h = halved text scratch term c.requires.stands_at.is.held c.half_takes-taken.ensures c.spawn_half-ours.ensures c.spawn_half-theirs.ensures in
-    let b = maker_stays text scratch run c.requires.run_of place p c.requires.stands_at m term channel _ _ _ h c.store.ensures.changed c.store.ensures.bounded_2 in b.run.wide
+    let b = maker_stays text scratch run c.requires.run_of place p c.requires.stands_at m term channel _ _ _ h c.store.ensures.changed c.store.ensures.still_bounded in b.run.wide
 
 pub insert-requires-clause-bounded : goal.insert-requires-clause-bounded
 insert-requires-clause-bounded c =
-    c.store.ensures.bounded_2
+    c.store.ensures.still_bounded
 
 pub insert-requires-clause-i_in_bounds : goal.insert-requires-clause-i_in_bounds
 insert-requires-clause-i_in_bounds c =
@@ -61,7 +61,7 @@ insert-requires-clause-i_in_bounds c =
     let term = c.requires.spawn_in in
     let channel = c.args.channel in
     let h = halved text scratch term c.requires.stands_at.is.held c.half_takes-taken.ensures c.spawn_half-ours.ensures c.spawn_half-theirs.ensures in
-    let a = as_before text scratch run c.requires.run_of place p c.requires.stands_at m term channel _ _ _ h c.store.ensures.changed c.store.ensures.bounded_2 in
+    let a = as_before text scratch run c.requires.run_of place p c.requires.stands_at m term channel _ _ _ h c.store.ensures.changed c.store.ensures.still_bounded in
     (omega (arith, a, c.requires.stands_at.below), omega (arith, a, c.requires.run_len_bound.0))
 
 pub insert-requires-clause-bounded_process : goal.insert-requires-clause-bounded_process
@@ -75,7 +75,7 @@ insert-requires-clause-bounded_process c =
     let term = c.requires.spawn_in in
     let channel = c.args.channel in
     let h = halved text scratch term c.requires.stands_at.is.held c.half_takes-taken.ensures c.spawn_half-ours.ensures c.spawn_half-theirs.ensures in
-    bounded_of text scratch (spawned_of text scratch run c.requires.run_of place p c.requires.stands_at m term channel _ _ _ h c.store.ensures.changed c.store.ensures.bounded_2)
+    bounded_of text scratch (spawned_of text scratch run c.requires.run_of place p c.requires.stands_at m term channel _ _ _ h c.store.ensures.changed c.store.ensures.still_bounded)
 
 pub returns : goal.returns
 returns c =
@@ -84,4 +84,4 @@ returns c =
     let term = c.requires.spawn_in in
     let h = halved text scratch term c.requires.stands_at.is.held c.half_takes-taken.ensures c.spawn_half-ours.ensures c.spawn_half-theirs.ensures in
     spawns text scratch c.args.run.now c.requires.run_of c.args.place c.args.p c.requires.stands_at c.args.m term c.args.channel _ _ _ h c.store.ensures.changed
-    c.store.ensures.bounded_2 _ c.insert.ensures.changed c.insert.ensures.bounded_2
+    c.store.ensures.still_bounded _ c.insert.ensures.changed c.insert.ensures.still_bounded

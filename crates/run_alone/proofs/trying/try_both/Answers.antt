@@ -74,11 +74,11 @@ store-requires-clause-run_words_in_bounds c =
     let p = c.args.p in
     let first = c.args.first in
     let second = c.args.second in (handler_came text scratch run c.requires.run_of place p c.requires.stands_at first second c.requires.process_in c.requires.process_in_2 _ _ _ _ moved-link.ensures try-half.ensures
-    try-half2.ensures c.insert.ensures.changed c.insert.ensures.bounded_2).run.wide
+    try-half2.ensures c.insert.ensures.changed c.insert.ensures.still_bounded).run.wide
 
 pub store-requires-clause-bounded : goal.store-requires-clause-bounded
 store-requires-clause-bounded c =
-    c.insert.ensures.bounded_2
+    c.insert.ensures.still_bounded
 
 pub store-requires-clause-i_in_bounds : goal.store-requires-clause-i_in_bounds
 store-requires-clause-i_in_bounds c =
@@ -94,7 +94,7 @@ store-requires-clause-i_in_bounds c =
     let second = c.args.second in omega (
       arith,
       one_more text scratch run c.requires.run_of place p c.requires.stands_at first second c.requires.process_in c.requires.process_in_2 _ _ _ _ moved-link.ensures
-          try-half.ensures try-half2.ensures c.insert.ensures.changed c.insert.ensures.bounded_2,
+          try-half.ensures try-half2.ensures c.insert.ensures.changed c.insert.ensures.still_bounded,
       c.requires.stands_at.below,
     )
 
@@ -110,12 +110,12 @@ store-requires-clause-bounded_process c =
     let p = c.args.p in
     let first = c.args.first in
     let second = c.args.second in bounded_of text scratch (tried_of text scratch run c.requires.run_of place p
-    c.requires.stands_at first second c.requires.process_in c.requires.process_in_2 _ _ _ _ moved-link.ensures try-half.ensures try-half2.ensures c.insert.ensures.changed c.insert.ensures.bounded_2 _
+    c.requires.stands_at first second c.requires.process_in c.requires.process_in_2 _ _ _ _ moved-link.ensures try-half.ensures try-half2.ensures c.insert.ensures.changed c.insert.ensures.still_bounded _
     refl)
 
 pub returns : goal.returns
 returns c =
     tries c.args.text.now c.args.scratch.now c.args.run.now c.requires.run_of c.args.place c.args.p c.requires.stands_at c.args.first
     c.args.second c.requires.process_in c.requires.process_in_2 _ _ _ _ c.moved_link-link.ensures c.try_half-ours.ensures
-    c.try_half-theirs.ensures c.insert.ensures.changed c.insert.ensures.bounded_2 _ _ refl (omega (arith, c.if-count-ge-PROCESS_PLACES.false, c.count.ensures))
-    c.store.ensures.changed c.store.ensures.bounded_2
+    c.try_half-theirs.ensures c.insert.ensures.changed c.insert.ensures.still_bounded _ _ refl (omega (arith, c.if-count-ge-PROCESS_PLACES.false, c.count.ensures))
+    c.store.ensures.changed c.store.ensures.still_bounded

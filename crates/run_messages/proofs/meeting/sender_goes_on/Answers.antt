@@ -9,4 +9,4 @@ pub returns-then-link-ne-UNLINKED : goal.returns-then-link-ne-UNLINKED
 returns-then-link-ne-UNLINKED c =
     let a = c.args in
     goes_on_lem a.text.now a.scratch.now a.run.now _ a.sent.place _ a.link c.if-link-ne-UNLINKED.true
-    (stored a.text.now a.scratch.now a.run.now _ c.requires.run_of a.sent.place a.sent.after c.requires.sending_in.after c.store.ensures.changed c.store.ensures.bounded_2)
+    (stored a.text.now a.scratch.now a.run.now _ c.requires.run_of a.sent.place a.sent.after c.requires.sending_in.after c.store.ensures.changed c.store.ensures.still_bounded)

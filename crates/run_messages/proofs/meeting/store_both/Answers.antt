@@ -14,10 +14,10 @@ store-requires-2-clause-bounded_process c =
     let place = c.args.place in
     let j = c.args.j in
     let q = c.args.q in
-    let r = c.args.r in bounded_of text scratch (second_of text scratch run _ c.requires.run_of place j q r c.requires.process_of c.requires.process_of_2 c.store.ensures.changed c.store.ensures.bounded_2)
+    let r = c.args.r in bounded_of text scratch (second_of text scratch run _ c.requires.run_of place j q r c.requires.process_of c.requires.process_of_2 c.store.ensures.changed c.store.ensures.still_bounded)
 
 pub returns : goal.returns
 returns c =
     both_set_lem c.args.text.now c.args.scratch.now c.args.run.now _ c.requires.run_of c.args.place c.args.j c.args.q c.args.r c.requires.process_of c.requires.process_of_2
-    c.store.ensures.changed c.store.ensures.bounded_2 _ c.store-2.ensures.changed
-    c.store-2.ensures.bounded_2
+    c.store.ensures.changed c.store.ensures.still_bounded _ c.store-2.ensures.changed
+    c.store-2.ensures.still_bounded

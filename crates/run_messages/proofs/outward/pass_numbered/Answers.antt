@@ -17,8 +17,8 @@ number_out-requires-clause-run_of c =
     let scratch = c.args.scratch.now in
     let run = c.args.run.now in
     let sent = c.args.sent in
-    (out_moved text scratch run sent c.args.o.number _ (stored text scratch run _ c.requires.run_of sent.place sent.after c.requires.sending_in.after c.store.ensures.changed c.store.ensures.bounded_2)
-    c.requires.outside_in.0 left.ensures _ c.retype_outside.ensures.changed c.retype_outside.ensures.bounded_2).run
+    (out_moved text scratch run sent c.args.o.number _ (stored text scratch run _ c.requires.run_of sent.place sent.after c.requires.sending_in.after c.store.ensures.changed c.store.ensures.still_bounded)
+    c.requires.outside_in.0 left.ensures _ c.retype_outside.ensures.changed c.retype_outside.ensures.still_bounded).run
 
 pub number_out-requires-clause-m_value : goal.number_out-requires-clause-m_value
 number_out-requires-clause-m_value c =
@@ -38,7 +38,7 @@ returns c =
     let number = c.args.o.number in
     passes_numbered text scratch run sent number c.requires.outside_in.0 c.args.d c.came_over-what.ensures _ _
     c.args.gone c.args.m c.requires.outside_in.1 c.requires.m_value.0
-    (out_moved text scratch run sent number _ (stored text scratch run _ c.requires.run_of sent.place sent.after c.requires.sending_in.after c.store.ensures.changed c.store.ensures.bounded_2) c.requires.outside_in.0
+    (out_moved text scratch run sent number _ (stored text scratch run _ c.requires.run_of sent.place sent.after c.requires.sending_in.after c.store.ensures.changed c.store.ensures.still_bounded) c.requires.outside_in.0
     c.after_message-left.ensures _ c.retype_outside.ensures.changed
-    c.retype_outside.ensures.bounded_2)
+    c.retype_outside.ensures.still_bounded)
     c.number_out.ensures

@@ -13,8 +13,8 @@ returns-then-n-eq-SEND_UNIT c =
     let run = c.args.run.now in
     let sent = c.args.sent in
     out_close c.args.text.now c.args.scratch.now run sent c.args.o.number _
-    (stored c.args.text.now c.args.scratch.now run _ c.requires.run_of sent.place sent.after c.requires.sending_in.after c.store.ensures.changed c.store.ensures.bounded_2) _
-    c.if-n-eq-SEND_UNIT.true c.let_go.ensures.changed c.let_go.ensures.bounded_2
+    (stored c.args.text.now c.args.scratch.now run _ c.requires.run_of sent.place sent.after c.requires.sending_in.after c.store.ensures.changed c.store.ensures.still_bounded) _
+    c.if-n-eq-SEND_UNIT.true c.let_go.ensures.changed c.let_go.ensures.still_bounded
 
 pub returns : goal.returns
 returns c =
@@ -22,5 +22,5 @@ returns c =
     let sent = c.args.sent in
     let z : sent.term.kind ≡ 3 = omega (arith, c.requires.sending_in.node.low, c.requires.sending_in.node.high, c.requires.fact, c.if-n-eq-SEND_UNIT.false) in
     out_label c.args.text.now c.args.scratch.now run sent c.args.o.number _
-    (stored c.args.text.now c.args.scratch.now run _ c.requires.run_of sent.place sent.after c.requires.sending_in.after c.store.ensures.changed c.store.ensures.bounded_2) c.requires.outside_in
-    c.after_message-node.ensures _ z c.retype_outside.ensures.changed c.retype_outside.ensures.bounded_2
+    (stored c.args.text.now c.args.scratch.now run _ c.requires.run_of sent.place sent.after c.requires.sending_in.after c.store.ensures.changed c.store.ensures.still_bounded) c.requires.outside_in
+    c.after_message-node.ensures _ z c.retype_outside.ensures.changed c.retype_outside.ensures.still_bounded

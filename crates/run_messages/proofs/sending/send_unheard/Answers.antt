@@ -10,7 +10,7 @@ pub returns-then-n-ne-SEND_CHANNEL : goal.returns-then-n-ne-SEND_CHANNEL
 returns-then-n-ne-SEND_CHANNEL c =
     unheard_goes c.args.text.now c.args.scratch.now c.args.run.now c.args.sent c.requires.sending_in.node.low c.requires.sending_in.node.high c.if-n-ne-SEND_CHANNEL.true
     (stored c.args.text.now c.args.scratch.now c.args.run.now _ c.requires.run_of c.args.sent.place c.args.sent.after c.requires.sending_in.after c.store.ensures.changed
-    c.store.ensures.bounded_2)
+    c.store.ensures.still_bounded)
 
 pub part-requires-clause-side_lt_side_radix : goal.part-requires-clause-side_lt_side_radix
 part-requires-clause-side_lt_side_radix c =

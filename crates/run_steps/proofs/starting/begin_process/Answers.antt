@@ -47,4 +47,4 @@ returns-clause-changed c =
 
 pub returns-clause-bounded : goal.returns-clause-bounded
 returns-clause-bounded c =
-    c.set_given.ensures.bounded_2
+    c.set_given.ensures.still_bounded

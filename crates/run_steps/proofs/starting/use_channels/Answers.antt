@@ -47,7 +47,7 @@ append_outside-requires-clause-bounded_outside c =
 pub loop-number-preserved : goal.loop-number-preserved
 loop-number-preserved c =
     used_on c.loop-number.invariant c.loop-number-test.true c.entry-e.ensures c.append_outside.ensures.changed
-    c.append_outside.ensures.bounded_2
+    c.append_outside.ensures.still_bounded
 
 pub returns-clause-changed : goal.returns-clause-changed
 returns-clause-changed c = used_all c.loop-number.invariant c.loop-number-test.false

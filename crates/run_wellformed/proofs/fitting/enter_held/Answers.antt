@@ -21,7 +21,7 @@ returns-then-not-enter-clause-entered c =
 
 pub loop-k-preserved : goal.loop-k-preserved
 loop-k-preserved c = (
-  c.enter.ensures.kept_2,
+  c.enter.ensures.still_kept,
   left_next c.args.text.now c.args.scratch.now c.loop-k.invariant.1 _ _
       (held_turn (held_in c.args.h) c.loop-k.k c.end_at.ensures.k_value) c.if-not-enter.false c.enter.ensures.entered,
 )

@@ -24,7 +24,7 @@ returns-then-not-enter c =
 
 pub loop-k-preserved : goal.loop-k-preserved
 loop-k-preserved c = (
-  c.enter.ensures.kept_2,
+  c.enter.ensures.still_kept,
   left_next c.args.text.now c.args.scratch.now c.loop-k.invariant.1 _ _
       (outside_turn (raw_in c.args.run.now).outside c.loop-k.k c.outside_at-o.ensures.k_value) c.if-not-enter.false c.enter.ensures.entered,
 )

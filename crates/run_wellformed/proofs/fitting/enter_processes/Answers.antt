@@ -22,7 +22,7 @@ returns-then-not-enter_held-clause-entered c =
 
 pub loop-i-preserved : goal.loop-i-preserved
 loop-i-preserved c = (
-  c.enter_held.ensures.kept_2,
+  c.enter_held.ensures.still_kept,
   left_next c.args.text.now c.args.scratch.now c.loop-i.invariant.1 _ _
       (process_turn (raw_in c.args.run.now).processes c.loop-i.i c.load-p.ensures.i_value) c.if-not-enter_held.false c.enter_held.ensures.entered,
 )

@@ -9,7 +9,7 @@ pub returns-in_default : goal.returns-in_default
 returns-in_default c =
     let run = c.args.run.now in
     let both = unchanged run _ (changed_same run c.args.channel (changed_by c.args.change) (sym c.in_default.ensures)) c.requires.bounded in
-    record { changed = both.0; bounded_2 = both.1 }
+    record { changed = both.0; still_bounded = both.1 }
 
 pub outside_at-o-requires-clause-k_in_bounds : goal.outside_at-o-requires-clause-k_in_bounds
 outside_at-o-requires-clause-k_in_bounds c = outside_below c.args.channel (raw_in c.args.run.now).outside _ (sym c.in-Some.ensures)

@@ -30,4 +30,4 @@ returns c =
     let ws = c.args.run.now in
     let e = letting_done ws _ c.args.channel c.loop-k.j c.loop-k.k c.loop-k.invariant c.requires.run_words_in_bounds c.requires.bounded (omega arith) in
     let both = keeps e (bounded_let_go (raw_in ws) c.requires.bounded c.args.channel) in
-    record { changed = both.0; bounded_2 = both.1 }
+    record { changed = both.0; still_bounded = both.1 }

@@ -8,4 +8,4 @@ pub returns : goal.returns
 returns c =
     let both = let ws = c.args.run.now in
     let e = outside_set ws _ c.args.k _ c.requires.bounded c.put_outside.ensures c.requires.k_in_bounds in
-    keeps e (bounded_set_outside (raw_in ws) c.requires.bounded c.args.k (outside_in c.args.o) c.requires.bounded_outside) in record { changed = both.0; bounded_2 = both.1 }
+    keeps e (bounded_set_outside (raw_in ws) c.requires.bounded c.args.k (outside_in c.args.o) c.requires.bounded_outside) in record { changed = both.0; still_bounded = both.1 }

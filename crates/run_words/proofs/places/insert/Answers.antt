@@ -14,4 +14,4 @@ returns c =
     let run = c.args.run.now in
     let e = inserted_words run _ count.result c.args.i c.requires.bounded c.requires.run_words_in_bounds count.ensures (omega arith) _ _ _ (omega arith) c.relink.ensures
     c.move_up.ensures c.put.ensures in
-    keeps e (bounded_insert (raw_in run) c.requires.bounded c.args.i (process_in c.args.p) c.requires.i_in_bounds.1 c.requires.bounded_process) in record { changed = both.0; bounded_2 = both.1 }
+    keeps e (bounded_insert (raw_in run) c.requires.bounded c.args.i (process_in c.args.p) c.requires.i_in_bounds.1 c.requires.bounded_process) in record { changed = both.0; still_bounded = both.1 }

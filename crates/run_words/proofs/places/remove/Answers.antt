@@ -10,4 +10,4 @@ returns c =
     let n = c.count-n in
     let e = removed_words ws _ n.result c.args.i c.requires.bounded c.requires.run_words_in_bounds n.ensures (omega arith) _ c.relink.ensures
     c.move_down.ensures in
-    keeps e (bounded_remove (raw_in ws) c.requires.bounded c.args.i c.requires.i_in_bounds c.requires.unlinked) in record { changed = both.0; bounded_2 = both.1 }
+    keeps e (bounded_remove (raw_in ws) c.requires.bounded c.args.i c.requires.i_in_bounds c.requires.unlinked) in record { changed = both.0; still_bounded = both.1 }

@@ -12,4 +12,4 @@ pub returns : goal.returns
 returns c =
     let both = let ws = c.args.run.now in
     let e = stored ws _ c.args.i _ c.requires.run_words_in_bounds c.requires.bounded c.requires.i_in_bounds c.put.ensures in
-    keeps e (bounded_set (raw_in ws) c.requires.bounded c.args.i (process_in c.args.p) c.requires.bounded_process) in record { changed = both.0; bounded_2 = both.1 }
+    keeps e (bounded_set (raw_in ws) c.requires.bounded c.args.i (process_in c.args.p) c.requires.bounded_process) in record { changed = both.0; still_bounded = both.1 }
