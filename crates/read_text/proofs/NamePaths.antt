@@ -6,11 +6,12 @@ use Prim.Native.Nat.{ℕ, suc, ◌<◌, ◌≤◌}
 use native.Mathlib.Omega.{arith}
 use lib.Dec.{eqb}
 use Rattle.std.specs.Prelude.{Ok, Err}
+use Rattle.std.specs.Result.{IsErrAnd}
 use Rattle.notation.specs.Fine.{FineProcess}
 use Rattle.notation.specs.declared.token.Token.{Token}
 use Rattle.notation.specs.Token.{kind_at, token_at, k_name, k_comma, k_call, k_round_open, k_round_close, k_square_open, k_square_close}
 use Rattle.notation.specs.Tree.{Located, call}
-use Rattle.notation.specs.Refusals.{refusal, refuses}
+use Rattle.notation.specs.Refusals.{OrRefusal, refusal, refuses}
 use Rattle.notation.specs.Reader.{Result, Taken, got, refused, on_token, part, lastly, choose, expect, opening, limited, may_open, deeper, past, fault, process_term, closed, name_in}
 use Rattle.notation.specs.Processes.{process_by, read_names, name_list}
 use Rattle.notation.specs.Tables.{more_terms, term_node, put_term, after_process, write_process}
@@ -21,10 +22,21 @@ use Rattle.notation.specs.declared.reading.TermNode.{TermNode}
 use Rattle.notation.specs.declared.token.TermHead.TheVariants.{Call}
 use Rattle.read_types.specs.Filling.{Out, Stepped, Room, unread}
 use Rattle.read_text.proofs.Turning.{term_kept}
-use Rattle.read_text.specs.Names.{AheadNames, NamesTaken, forget_names, list_end, names_or_none}
+use Rattle.read_text.specs.Names.{passed, AheadNames, NamesTaken, forget_names, list_end, names_or_none}
 use Rattle.read_text.specs.Processes.{TermRead}
-use Rattle.read_types.proofs.Taking.{never}
+use Rattle.read_types.proofs.Taking.{never, left}
 use Rattle.read_types.proofs.Filled.{at_more, same, took, made_got, meets_no, meets_got}
+
+-- the answer of a list's reading, as a step's
+module _ (i : ℕ) (c : Cursor) {y : Refusal} where
+  pub passed_no : {r : OrRefusal (Unit {0})} → r ≡ Err y → passed i r c ≡ Err y
+  passed_no e = ap (λ x. passed i x c) e
+
+  pub passed_left : (r : OrRefusal (Unit {0})) → IsErrAnd r (λ z. z ≡ y) → passed i r c ≡ Err y
+  passed_left r h = passed_no (left r h)
+
+pub passed_at : (i : ℕ) (c : Cursor) {r : OrRefusal (Unit {0})} {x : Unit {0}} → r ≡ Ok x → passed i r c ≡ Ok (i, c)
+passed_at i c e = ap (λ x. passed i x c) e
 
 -- a list that was read, and one that was refused
 module _ {P : Type 0} {r : Taken} (i : ℕ) (x : Result (List Located)) (is : r ≡ forget_names i x) where

@@ -21,7 +21,7 @@ use Rattle.notation.specs.declared.token.TermHead.{TermHead}
 use Rattle.notation.specs.declared.token.TermHead.TheVariants.{Recv, Try, Spawn, Empty}
 use Rattle.notation.specs.declared.token.Payload.{Payload}
 use Rattle.notation.specs.declared.token.Payload.TheVariants.{Unit as UnitPayload, Channel, Label, Other}
-use Rattle.read_types.specs.Filling.{Out, TypeRead, Further, Stepped, Closes, not_read, not_closed, read, misfit_refusal, Room, Form, Meets, unread}
+use Rattle.read_types.specs.Filling.{Out, TypeRead, Further, Stepped, misfit_refusal, Room, Form, Meets, unread}
 use Rattle.read_types.proofs.TypePaths.{then_take}
 use Rattle.read_types.proofs.Filled.{same, ◌upon◌, took, made_got, gone_on, stopped, meets_no, meets_got, more_made}
 use Rattle.read_text.specs.declared.turns.Turn.{Turn}
@@ -33,6 +33,14 @@ use Rattle.read_text.proofs.Pointers.{pointer_at, pointer_in}
 use Rattle.read_text.proofs.Order.{Inside, process_grown, type_put, process_put, branches_put}
 
 -- ── a process and the bracket that closes it
+-- r is the answer p, and then the bracket that closes: p's refusal, the bracket's, or p with as many open as at c
+pub data Closes (s : List ℕ) (c : Cursor) (p r : Out) : Type 0 where
+  not_read : {y : Refusal} → p ≡ Err y → r ≡ Err y → Closes s c p r
+  not_closed : {e : Cursor} {l : Tally} {x : Taken} {y : Refusal} → p ≡ Ok (e, l) → Stepped s e 1 0 0 (expect s k_round_close e) x → x ≡ Err y → r ≡ Err y
+      → Closes s c p r
+  read : {e b : Cursor} {l : Tally} {x : Taken} {j : ℕ} → p ≡ Ok (e, l) → Stepped s e 1 0 0 (expect s k_round_close e) x → x ≡ Ok (j, b) → r ≡ Ok (closed c b, l)
+      → Closes s c p r
+
 module _ {F G : Form Proc} {s w : List ℕ} {c₀ c d : Cursor} {k k' : Tally} {b bs : ℕ} {f sub : ℕ → Result Proc}
     (is : (m : ℕ) → b < m → (f m ≡ part (sub m) (λ P g. on_token (expect s k_round_close g) λ _ h. got P (closed c h))) × (bs < m)) {p : Out} {v : List ℕ}
     (t : Meets F s w d k' bs sub p v)
@@ -105,7 +113,7 @@ module _ (s w : List ℕ) (c : Cursor) (k : Tally) (at i : ℕ) where
   unfolding recv_by
   handler_label e = handler_as_lem e (λ m. refl)
 
-  pub handler_other : {r : Out} → payload (kind_at s c.at) ≡ Other → r ≡ Err (misfit_refusal s c) → HandlerRead at i s w c k r w
+  pub handler_other : {r : Out} → payload (kind_at s c.at) ≡ Other → r ≡ Err (misfit_refusal s c.at) → HandlerRead at i s w c k r w
   unfolding recv_by misfit
   handler_other e h = meets_no s w c (more_terms k) h same (λ m _. rw e)
 
@@ -238,7 +246,7 @@ module _ (s w : List ℕ) (c : Cursor) (k : Tally) (room : Room s w c k) {q : Ta
 
 -- ── the two halves of a spawn
 module _ (s w : List ℕ) (c : Cursor) (k : Tally) (room : Room s w c k) (i at : ℕ) {p : Out} {v : List ℕ} (t : BracketedRead s w c k p v) where
-  pub parts_no : {t : OrRefusal Turn} {y : Refusal} → p ≡ Err y → t ≡ Err y → PartsTurned i at s w c k t v
+  pub parts_no : {t : OrRefusal Turn} {d' : Cursor} {l' : Tally} {y : Refusal} → p ≡ Err y → t ≡ Err y → PartsTurned i at s w c k t d' l' v
   parts_no g r-is = turn_no r-is (meets_no s w c k refl t.kept (λ m lo. rw (stopped (bracketed_by (λ d. read_process m s d) s c) (t.is m (omega arith)) g)))
 
   module _ {d : Cursor} {l : Tally} (g : p ≡ Ok (d, l)) {second : ℕ} (sp : second ≡ peek s (token_at s c.at).end k.terms) where
@@ -260,7 +268,7 @@ module _ (s w : List ℕ) (c : Cursor) (k : Tally) (room : Room s w c k) (i at :
           on = λ b l₂ h. let o₂ = z.on b l₂ h in omega arith;
         }
 
-    pub parts_on : {t₂ : OrRefusal Turn} {v₂ : List ℕ} → RestTurned i (term_node 5 at k.last second 0) s v d l t₂ v₂ → PartsTurned i at s w c k t₂ v₂
+    pub parts_on : {t₂ : OrRefusal Turn} {d' : Cursor} {l' : Tally} {v₂ : List ℕ} → RestTurned i (term_node 5 at k.last second 0) s v d l t₂ d' l' v₂ → PartsTurned i at s w c k t₂ d' l' v₂
     parts_on {t₂} z = let o = t.on d l g in turn_under t₂ (omega arith) t.kept parts_whole z
 
 -- ── spawn
@@ -284,17 +292,17 @@ module _ (s w : List ℕ) (c : Cursor) (k : Tally) (room : Room s w c k) {q : Ta
   unfolding name_colon process_by
   spawn_is m = sym (then_take (process_term s k_name c) (expect s k_colon) _)
 
-  pub spawn_no : {t : OrRefusal Turn} {y : Refusal} → q ≡ Err y → t ≡ Err y → TermTurned Spawn s w c k t w
+  pub spawn_no : {t : OrRefusal Turn} {d' : Cursor} {l' : Tally} {y : Refusal} → q ≡ Err y → t ≡ Err y → TermTurned Spawn s w c k t d' l' w
   spawn_no g h = turn_no h (meets_no s w c k refl same (λ m _. spawn_is m ∙ rw (took u g)))
 
   module _ {i : ℕ} {d : Cursor} (e : q ≡ Ok (i, d)) {p : Out} {v : List ℕ} (t : TypeRead s w d (more_terms k) p v) where
-    pub spawn_type_no : {t : OrRefusal Turn} {y : Refusal} → p ≡ Err y → t ≡ Err y → TermTurned Spawn s w c k t v
+    pub spawn_type_no : {t : OrRefusal Turn} {d' : Cursor} {l' : Tally} {y : Refusal} → p ≡ Err y → t ≡ Err y → TermTurned Spawn s w c k t d' l' v
     spawn_type_no g r-is =
         let o = u.on i d e in
         turn_no r-is (meets_no s w c k refl t.kept (λ m lo. spawn_is m ∙ rw (took u e, stopped (read_type m s d) (t.is m (omega arith)) g)))
 
     module _ {f : Cursor} {l : Tally} (g : p ≡ Ok (f, l)) {x : Taken} (y : Stepped s f 1 0 0 (expect s k_from f) x) where
-      pub spawn_arrow_no : {t : OrRefusal Turn} {y : Refusal} → x ≡ Err y → t ≡ Err y → TermTurned Spawn s w c k t v
+      pub spawn_arrow_no : {t : OrRefusal Turn} {d' : Cursor} {l' : Tally} {y : Refusal} → x ≡ Err y → t ≡ Err y → TermTurned Spawn s w c k t d' l' v
       spawn_arrow_no z h =
           let o = u.on i d e in
           turn_no h (meets_no s w c k refl t.kept
@@ -342,7 +350,7 @@ module _ (s w : List ℕ) (c : Cursor) (k : Tally) (room : Room s w c k) {q : Ta
               on = λ b₂ l₂ h. let o₄ = t₂.on b₂ l₂ h in omega arith;
             }
 
-        pub spawn_on : {t₂ : OrRefusal Turn} {v₂ : List ℕ} → PartsTurned k.terms i s v b l t₂ v₂ → TermTurned Spawn s w c k t₂ v₂
+        pub spawn_on : {t₂ : OrRefusal Turn} {d' : Cursor} {l' : Tally} {v₂ : List ℕ} → PartsTurned k.terms i s v b l t₂ d' l' v₂ → TermTurned Spawn s w c k t₂ d' l' v₂
         spawn_on {t₂} h =
             let o = u.on i d e in
             let o₂ = t.on f l g in
@@ -363,17 +371,17 @@ module _ (s w : List ℕ) (c : Cursor) (k : Tally) (room : Room s w c k) where
     on = y.on;
   }
 
-  pub turn_by : (h : TermHead) → term_head (kind_at s c.at) ≡ h → {t : OrRefusal Turn} {v : List ℕ} → TermTurned h s w c k t v → TurnRead s w c k t v
+  pub turn_by : (h : TermHead) → term_head (kind_at s c.at) ≡ h → {t : OrRefusal Turn} {d' : Cursor} {l' : Tally} {v : List ℕ} → TermTurned h s w c k t d' l' v → TurnRead s w c k t d' l' v
   turn_by h e {t} a = turn_under t (omega arith) same (turn_whole h e) a
 
   pub turn_read : (h : TermHead) → term_head (kind_at s c.at) ≡ h → {r : Out} {v : List ℕ} → TermRead h s w c k r v → {d : Cursor} {l : Tally} → r ≡ Ok (d, l)
-      → TurnRead s w c k (Ok (Done d l)) v
+      → TurnRead s w c k (Ok Done) d l v
   turn_read h e {v = v} a {d} {l} g = turn_done (turn_whole h e (Ok (d, l)) v (rw g at a))
 
-  pub turn_read_no : (h : TermHead) → term_head (kind_at s c.at) ≡ h → {r : Out} {v : List ℕ} → TermRead h s w c k r v → {t : OrRefusal Turn} {y : Refusal} → r ≡ Err y
-      → t ≡ Err y → TurnRead s w c k t v
+  pub turn_read_no : (h : TermHead) → term_head (kind_at s c.at) ≡ h → {r : Out} {v : List ℕ} → TermRead h s w c k r v → {t : OrRefusal Turn} {d' : Cursor} {l' : Tally} {y : Refusal} → r ≡ Err y
+      → t ≡ Err y → TurnRead s w c k t d' l' v
   turn_read_no h e {v = v} a {y = y} g q = turn_no q (turn_whole h e (Err y) v (rw g at a))
 
-  pub turn_empty : term_head (kind_at s c.at) ≡ Empty → (token_at s c.at).start ≤ text_limit → TurnRead s w c k (Ok (Done c k)) w
+  pub turn_empty : term_head (kind_at s c.at) ≡ Empty → (token_at s c.at).start ≤ text_limit → TurnRead s w c k (Ok Done) c k w
   unfolding process_by after_process write_process FineProcess
   turn_empty e l = turn_done (turn_whole Empty e (Ok (c, k)) w (meets_got s w c k (omega arith) same (λ m _. record { said = (refl, refl, l) })))

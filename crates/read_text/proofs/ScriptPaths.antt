@@ -229,7 +229,7 @@ module _ (s w : List ℕ) (c : Cursor) (k : Tally) (room : Room s w c k) {q : Ta
 
 -- ── a declaration that no token begins
 pub declare_no : (h : DeclarationHead) (s w : List ℕ) (c : Cursor) (k : Tally) {r : Out} → ((m : ℕ) → declaration_by h m s (count_of k) c ≡ misfit s c)
-    → r ≡ Err (misfit_refusal s c) → DeclarationRead h s w c k r
+    → r ≡ Err (misfit_refusal s c.at) → DeclarationRead h s w c k r
     w
 unfolding misfit
 declare_no h s w c k e g = meets_no s w c k g same (λ m _. e m)

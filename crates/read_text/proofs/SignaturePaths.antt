@@ -133,9 +133,23 @@ module _ (s w : List ℕ) (c : Cursor) (k : Tally) (room : Room s w c k) (close 
             (λ r a x. entries_more
             (record { is = λ m lo. rw (comma, took y z) (x.is m (omega arith)); kept = x.kept; on = λ b l q. let o₄ = x.on b l q in omega arith }))
 
-      pub entries_end : eqb (kind_at s f.at) k_comma ≡ false → {x : Out} {v₃ : List ℕ} → EntriesRead (λ _. close_by s close f) s v₂ f l₂ x v₃
+      entries_end : eqb (kind_at s f.at) k_comma ≡ false → {x : Out} {v₃ : List ℕ} → EntriesRead (λ _. close_by s close f) s v₂ f l₂ x v₃
           → Entries s close w c k x v₃
       entries_end comma y = entries_more (record { is = λ m lo. rw comma (y.is m lo); kept = y.kept; on = y.on })
+
+      module _ (other : eqb (kind_at s f.at) k_comma ≡ false) {n : ℕ} {x : Taken} (y : Stepped s f n 0 0 (expect s close f) x) where
+        room₂ : Room s v₂ f l₂
+        room₂ =
+            let o = u.on i d e in
+            let o₂ = t.on f l g in
+            let added = entry_added l l₂ pt.is in
+            omega (arith, pt.kept.long, t.kept.long)
+
+        pub entries_close_no : {r : Out} {y : Refusal} → x ≡ Err y → r ≡ Err y → Entries s close w c k r v₂
+        entries_close_no h z = entries_end other (close_no s v₂ f l₂ room₂ close n y h z)
+
+        pub entries_close_got : {j : ℕ} {b : Cursor} → x ≡ Ok (j, b) → Entries s close w c k (Ok (b, l₂)) v₂
+        entries_close_got h = entries_end other (close_got s v₂ f l₂ room₂ close n y h)
 
 -- ── a list in its brackets
 module _ (s w : List ℕ) (c : Cursor) (k : Tally) (room : Room s w c k) (opens closes n : ℕ) (wide : 1 ≤ n) {q : Taken}

@@ -46,7 +46,7 @@ module _ (i : ℕ) (n : TermNode) (s w : List ℕ) (c : Cursor) (k : Tally) (roo
 
   -- nothing follows
   pub rest_none : ((t.kind ≡ k_semicolon) → ⊥) → {v : List ℕ} → v ≡ put_term w i (pointing n (empty_pointer t.start))
-      → RestTurned i n s w c k (Ok (Done c k)) v
+      → RestTurned i n s w c k (Ok Done) c k v
   unfolding rest_by after_process write_process FineProcess
   rest_none d x =
       turn_done (more_got (node_form i n) s w c k (λ m. read_rest m s c) (omega (arith, o.starts)) (term_kept w i (pointing n (empty_pointer t.start)) few x)
@@ -57,7 +57,7 @@ module _ (i : ℕ) (n : TermNode) (s w : List ℕ) (c : Cursor) (k : Tally) (roo
     semicolon : eqb (kind_at s c.at) k_semicolon ≡ true
     semicolon = eq-eqb _ _ (kind_is ∙ e)
 
-    pub rest_no : {t : OrRefusal Turn} {y : Refusal} → q ≡ Err y → t ≡ Err y → RestTurned i n s w c k t w
+    pub rest_no : {t : OrRefusal Turn} {d' : Cursor} {l' : Tally} {y : Refusal} → q ≡ Err y → t ≡ Err y → RestTurned i n s w c k t d' l' w
     unfolding rest_by
     rest_no g h = turn_no h (more_no (node_form i n) s w c k (λ m. read_rest m s c) refl same (λ m _. rest_suc m s c ∙ rw (semicolon, took u g)))
 
@@ -81,7 +81,7 @@ module _ (i : ℕ) (n : TermNode) (s w : List ℕ) (c : Cursor) (k : Tally) (roo
           }
 
       -- the process after the semicolon: its answer is the rest's
-      pub rest_on : RestTurned i n s w c k (Ok (On d k)) v
+      pub rest_on : RestTurned i n s w c k (Ok On) d k v
       rest_on =
           let z = u.on j d g in
           turn_on rest_kept (record { room = omega (arith, rest_kept.long); later = omega arith; whole = rest_whole })
@@ -122,12 +122,12 @@ sent_fine s Other at i j P a b d f = (a, b, f)
 -- ── what is sent, and the rest
 module _ (s w : List ℕ) (c : Cursor) (k : Tally) (room : Room s w c (more_terms k)) (at i : ℕ) (a : at < text_limit) (b : i < text_limit) (h : Payload) {q : Taken}
     (u : Stepped s c 1 0 0 (payload_taken s c h) q) where
-  pub sent_no : {t : OrRefusal Turn} {y : Refusal} → q ≡ Err y → t ≡ Err y → SentTurned at i h s w c k t w
+  pub sent_no : {t : OrRefusal Turn} {d' : Cursor} {l' : Tally} {y : Refusal} → q ≡ Err y → t ≡ Err y → SentTurned at i h s w c k t d' l' w
   sent_no g y = turn_no y (meets_no s w c (more_terms k) refl same (λ m _. sent_is _ s at (name_in s i) c h ∙ rw (took u g)))
 
-  pub sent_on : {j : ℕ} {d : Cursor} → q ≡ Ok (j, d) → {n : TermNode} → n ≡ sent_node h at i j → {t : OrRefusal Turn} {v : List ℕ}
-      → RestTurned k.terms n s w d (more_terms k) t v
-      → SentTurned at i h s w c k t v
+  pub sent_on : {j : ℕ} {d : Cursor} → q ≡ Ok (j, d) → {n : TermNode} → n ≡ sent_node h at i j → {t : OrRefusal Turn} {d' : Cursor} {l' : Tally} {v : List ℕ}
+      → RestTurned k.terms n s w d (more_terms k) t d' l' v
+      → SentTurned at i h s w c k t d' l' v
   sent_on {j} {d} e {n} ne {t} y =
       let o = u.on j d e in
       turn_under t (omega arith) same
@@ -143,17 +143,17 @@ module _ (s w : List ℕ) (c : Cursor) (k : Tally) (room : Room s w c (more_term
 module _ (s w : List ℕ) (c : Cursor) (k : Tally) (room : Room s w c k) where
   -- send
   module _ {q : Taken} (u : Stepped s c 1 0 1 (process_term s k_send c) q) where
-    pub send_no : {t : OrRefusal Turn} {y : Refusal} → q ≡ Err y → t ≡ Err y → TermTurned Send s w c k t w
+    pub send_no : {t : OrRefusal Turn} {d' : Cursor} {l' : Tally} {y : Refusal} → q ≡ Err y → t ≡ Err y → TermTurned Send s w c k t d' l' w
     unfolding process_by
     send_no g h = turn_no h (meets_no s w c k refl same (λ m _. rw (took u g)))
 
     module _ {at : ℕ} {d : Cursor} (e : q ≡ Ok (at, d)) {x : Taken} (y : Stepped s d 1 0 0 (expect s k_name d) x) where
-      pub send_name_no : {t : OrRefusal Turn} {y : Refusal} → x ≡ Err y → t ≡ Err y → TermTurned Send s w c k t w
+      pub send_name_no : {t : OrRefusal Turn} {d' : Cursor} {l' : Tally} {y : Refusal} → x ≡ Err y → t ≡ Err y → TermTurned Send s w c k t d' l' w
       unfolding process_by
       send_name_no g h = turn_no h (meets_no s w c k refl same (λ m _. rw (took u e, took y g)))
 
-      pub send_on : {i : ℕ} {f : Cursor} → x ≡ Ok (i, f) → {h : Payload} → h ≡ payload (kind_at s f.at) → {t : OrRefusal Turn} {v : List ℕ}
-          → SentTurned at i h s w f k t v → TermTurned Send s w c k t v
+      pub send_on : {i : ℕ} {f : Cursor} → x ≡ Ok (i, f) → {h : Payload} → h ≡ payload (kind_at s f.at) → {t : OrRefusal Turn} {d' : Cursor} {l' : Tally} {v : List ℕ}
+          → SentTurned at i h s w f k t d' l' v → TermTurned Send s w c k t d' l' v
       unfolding process_by
       send_on {i} {f} g {h} p {t} z =
           let o = u.on at d e in
@@ -165,17 +165,17 @@ module _ (s w : List ℕ) (c : Cursor) (k : Tally) (room : Room s w c k) where
 
   -- cancel
   module _ {q : Taken} (u : Stepped s c 1 0 1 (process_term s k_cancel c) q) where
-    pub cancel_no : {t : OrRefusal Turn} {y : Refusal} → q ≡ Err y → t ≡ Err y → TermTurned Cancel s w c k t w
+    pub cancel_no : {t : OrRefusal Turn} {d' : Cursor} {l' : Tally} {y : Refusal} → q ≡ Err y → t ≡ Err y → TermTurned Cancel s w c k t d' l' w
     unfolding process_by
     cancel_no g h = turn_no h (meets_no s w c k refl same (λ m _. rw (took u g)))
 
     module _ {at : ℕ} {d : Cursor} (e : q ≡ Ok (at, d)) {x : Taken} (y : Stepped s d 1 0 0 (expect s k_name d) x) where
-      pub cancel_name_no : {t : OrRefusal Turn} {y : Refusal} → x ≡ Err y → t ≡ Err y → TermTurned Cancel s w c k t w
+      pub cancel_name_no : {t : OrRefusal Turn} {d' : Cursor} {l' : Tally} {y : Refusal} → x ≡ Err y → t ≡ Err y → TermTurned Cancel s w c k t d' l' w
       unfolding process_by
       cancel_name_no g h = turn_no h (meets_no s w c k refl same (λ m _. rw (took u e, took y g)))
 
-      pub cancel_on : {i : ℕ} {f : Cursor} → x ≡ Ok (i, f) → {n : TermNode} → n ≡ term_node 4 at i 0 0 → {t : OrRefusal Turn} {v : List ℕ} → RestTurned k.terms n s w f (more_terms k) t v
-          → TermTurned Cancel s w c k t v
+      pub cancel_on : {i : ℕ} {f : Cursor} → x ≡ Ok (i, f) → {n : TermNode} → n ≡ term_node 4 at i 0 0 → {t : OrRefusal Turn} {d' : Cursor} {l' : Tally} {v : List ℕ} → RestTurned k.terms n s w f (more_terms k) t d' l' v
+          → TermTurned Cancel s w c k t d' l' v
       unfolding process_by after_process write_process FineProcess
       cancel_on {i} {f} g ne {t} z =
           let o = u.on at d e in
@@ -187,13 +187,13 @@ module _ (s w : List ℕ) (c : Cursor) (k : Tally) (room : Room s w c k) where
 
   -- raise
   module _ {q : Taken} (u : Stepped s c 1 0 1 (process_term s k_raise c) q) where
-    pub raise_no : {t : OrRefusal Turn} {y : Refusal} → q ≡ Err y → t ≡ Err y → TermTurned Raise s w c k t w
+    pub raise_no : {t : OrRefusal Turn} {d' : Cursor} {l' : Tally} {y : Refusal} → q ≡ Err y → t ≡ Err y → TermTurned Raise s w c k t d' l' w
     unfolding process_by
     raise_no g h = turn_no h (meets_no s w c k refl same (λ m _. rw (took u g)))
 
     pub raise_on : {at : ℕ} {d : Cursor} → q ≡ Ok (at, d) → {n : TermNode} → n ≡ term_node 11 at 0 0 0 → {v : List ℕ}
         → v ≡ put_term w k.terms (pointing n (peek s d.at (k.terms + 1)))
-        → TermTurned Raise s w c k (Ok (On d (more_terms k))) v
+        → TermTurned Raise s w c k (Ok On) d (more_terms k) v
     unfolding process_by after_process write_process FineProcess
     raise_on {at} {d} e ne put =
         let o = u.on at d e in

@@ -83,23 +83,23 @@ lastly_same (refused n i) = refl
 -- ── turns
 module _ {A : Type 0} {F : Form A} {s w : List ℕ} {c : Cursor} {k : Tally} {b : ℕ} {f : ℕ → Result A} {v : List ℕ} where
   -- a turn that is refused, one that is the answer, and one that a process follows
-  pub turn_no : {t : OrRefusal Turn} {y : Refusal} → t ≡ Err y → Meets F s w c k b f (Err y) v → Turned F s w c k b f t v
+  pub turn_no : {t : OrRefusal Turn} {d : Cursor} {l : Tally} {y : Refusal} → t ≡ Err y → Meets F s w c k b f (Err y) v → Turned F s w c k b f t d l v
   turn_no e m = rw e (record { said = m; kept = m.kept })
 
-  pub turn_done : {d : Cursor} {l : Tally} → Meets F s w c k b f (Ok (d, l)) v → Turned F s w c k b f (Ok (Done d l)) v
+  pub turn_done : {d : Cursor} {l : Tally} → Meets F s w c k b f (Ok (d, l)) v → Turned F s w c k b f (Ok Done) d l v
   turn_done m = record { said = m; kept = m.kept }
 
-  pub turn_on : {d : Cursor} {l : Tally} → Kept w v → Onward F s w c k b f v d l → Turned F s w c k b f (Ok (On d l)) v
+  pub turn_on : {d : Cursor} {l : Tally} → Kept w v → Onward F s w c k b f v d l → Turned F s w c k b f (Ok On) d l v
   turn_on g o = record { said = o; kept = g }
 
   -- a turn under what went before it
-  pub turn_under : {B : Type 0} {G : Form B} {w' : List ℕ} {c' : Cursor} {k' : Tally} {b' : ℕ} {g : ℕ → Result B} (t : OrRefusal Turn) → c'.at ≤ c.at → Kept w' w
-      → ((r : Out) (u : List ℕ) → Meets F s w c k b f r u → Meets G s w' c' k' b' g r u) → Turned F s w c k b f t v → Turned G s w' c' k' b' g t v
-  turn_under (Ok (On d l)) h q go m =
+  pub turn_under : {B : Type 0} {G : Form B} {w' : List ℕ} {c' : Cursor} {k' : Tally} {b' : ℕ} {g : ℕ → Result B} (t : OrRefusal Turn) {d : Cursor} {l : Tally} → c'.at ≤ c.at → Kept w' w
+      → ((r : Out) (u : List ℕ) → Meets F s w c k b f r u → Meets G s w' c' k' b' g r u) → Turned F s w c k b f t d l v → Turned G s w' c' k' b' g t d l v
+  turn_under (Ok On) h q go m =
       let o = m.said in
       let y = o.later in
       record { said = record { room = o.room; later = omega arith; whole = λ r u p. go r u (o.whole r u p) }; kept = m.kept upon q }
-  turn_under (Ok (Done d l)) h q go m = record { said = go (Ok (d, l)) v m.said; kept = m.kept upon q }
+  turn_under (Ok Done) {d} {l} h q go m = record { said = go (Ok (d, l)) v m.said; kept = m.kept upon q }
   turn_under (Err y) h q go m = record { said = go (Err y) v m.said; kept = m.kept upon q }
 
 -- ── a loop over what follows: the answer from here, with these words, is the answer of the whole
@@ -121,21 +121,22 @@ through_on h room later g on =
     record { room = room; later = omega arith; kept = g upon h.kept; whole = λ r u a. h.whole r u (on r u a) }
 
 -- ── the loop over the terms of a process
-module _ {s w₀ w v : List ℕ} {c₀ c : Cursor} {k₀ k : Tally} {t : OrRefusal Turn} (h : Through (ProcessRead s) s w₀ c₀ k₀ w c k) (a : TurnRead s w c k t v) where
-  onward : {d : Cursor} {l : Tally} → t ≡ Ok (On d l) → Onward process_form s w c k (3 * unread s c + 1) (λ m. read_process m s c) v d l
-  onward e = (subst (λ x. TurnRead s w c k x v) e a).said
+module _ {s w₀ w v : List ℕ} {c₀ c : Cursor} {k₀ k : Tally} {t : OrRefusal Turn} {d : Cursor} {l : Tally} (h : Through (ProcessRead s) s w₀ c₀ k₀ w c k)
+    (a : TurnRead s w c k t d l v) where
+  onward : t ≡ Ok On → Onward process_form s w c k (3 * unread s c + 1) (λ m. read_process m s c) v d l
+  onward e = (subst (λ x. TurnRead s w c k x d l v) e a).said
 
-  pub turns_later : {d : Cursor} {l : Tally} → t ≡ Ok (On d l) → (c.at < d.at) × (d.at ≤ length s)
+  pub turns_later : t ≡ Ok On → (c.at < d.at) × (d.at ≤ length s)
   turns_later e = let o = onward e in (o.later, o.room.2)
 
-  pub turns_on : {d : Cursor} {l : Tally} → t ≡ Ok (On d l) → Through (ProcessRead s) s w₀ c₀ k₀ v d l
+  pub turns_on : t ≡ Ok On → Through (ProcessRead s) s w₀ c₀ k₀ v d l
   turns_on e =
       let o = onward e in
       let y = o.later in
       through_on h o.room (omega arith) a.kept o.whole
 
-  pub turns_end : {d : Cursor} {l : Tally} → t ≡ Ok (Done d l) → ProcessRead s w₀ c₀ k₀ (Ok (d, l)) v
-  turns_end {d} {l} e = h.whole (Ok (d, l)) v (subst (λ x. TurnRead s w c k x v) e a).said
+  pub turns_end : t ≡ Ok Done → ProcessRead s w₀ c₀ k₀ (Ok (d, l)) v
+  turns_end e = h.whole (Ok (d, l)) v (subst (λ x. TurnRead s w c k x d l v) e a).said
 
   pub turns_no : {r : Out} {y : Refusal} → t ≡ Err y → r ≡ Err y → ProcessRead s w₀ c₀ k₀ r v
-  turns_no {y = y} e q = rw q (h.whole (Err y) v (subst (λ x. TurnRead s w c k x v) e a).said)
+  turns_no {y = y} e q = rw q (h.whole (Err y) v (subst (λ x. TurnRead s w c k x d l v) e a).said)

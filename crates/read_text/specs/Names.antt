@@ -1,12 +1,17 @@
 -- What the code that reads lists of names promises.
-use Rattle.std.specs.Prelude.{◌≡◌, ℕ, ◌<◌, ◌≤◌, List, [], eqb, length, Ok}
+use Rattle.std.specs.Prelude.{◌≡◌, ℕ, ◌<◌, ◌≤◌, List, [], eqb, length, Ok, Err}
 use Rattle.notation.specs.Token.{kind_at, k_name}
 use Rattle.notation.specs.Tree.{Located}
-use Rattle.notation.specs.Refusals.{refuses}
+use Rattle.notation.specs.Refusals.{OrRefusal, refuses}
 use Rattle.notation.specs.Reader.{Result, Taken, got, refused, on_token, choose, expect}
 use Rattle.notation.specs.Processes.{read_names}
 use Rattle.notation.specs.declared.reading.Cursor.{Cursor}
 use Rattle.read_types.specs.Filling.{unread}
+
+-- the answer of a list's reading with the offset i, and the cursor that it left
+abbrev pub passed : ℕ → OrRefusal (Unit {0}) → Cursor → Taken
+passed i (Ok x) c = Ok (i, c)
+passed i (Err e) c = Err e
 
 -- the code keeps none of the names
 abbrev pub forget_names : ℕ → Result (List Located) → Taken

@@ -25,7 +25,7 @@ unfoldable pub payload_taken : List ℕ → Cursor → Payload → Taken
 payload_taken s c UnitPayload = unit_taken s c
 payload_taken s c Channel = expect s k_name c
 payload_taken s c Label = expect s k_label c
-payload_taken s c Other = Err (misfit_refusal s c)
+payload_taken s c Other = Err (misfit_refusal s c.at)
 
 unfoldable pub payload_then : List ℕ → Cursor → Payload → Taken
 payload_then s c h = then_token (payload_taken s c h) (expect s k_then)
@@ -45,7 +45,7 @@ term_by h s c m = process_by (λ d. read_type m s d) (λ d. read_process m s d) 
 abbrev pub TermRead : TermHead → List ℕ → List ℕ → Cursor → Tally → Out → List ℕ → Type 0
 TermRead h s w c k = Meets process_form s w c k (3 * unread s c) (term_by h s c)
 
-abbrev pub TermTurned : TermHead → List ℕ → List ℕ → Cursor → Tally → OrRefusal Turn → List ℕ → Type 0
+abbrev pub TermTurned : TermHead → List ℕ → List ℕ → Cursor → Tally → OrRefusal Turn → Cursor → Tally → List ℕ → Type 0
 TermTurned h s w c k = Turned process_form s w c k (3 * unread s c) (term_by h s c)
 
 -- ── the node of a send or a recv by the first of its kinds, before its pointer is known: the channel at i, what is sent or taken at j
@@ -66,7 +66,7 @@ abbrev pub sent_node : Payload → ℕ → ℕ → ℕ → TermNode
 sent_node = payload_node 1
 
 -- what follows the channel of a send that began after k
-abbrev pub SentTurned : ℕ → ℕ → Payload → List ℕ → List ℕ → Cursor → Tally → OrRefusal Turn → List ℕ → Type 0
+abbrev pub SentTurned : ℕ → ℕ → Payload → List ℕ → List ℕ → Cursor → Tally → OrRefusal Turn → Cursor → Tally → List ℕ → Type 0
 SentTurned at i h s w c k =
     Turned (term_form 0 k) s w c (more_terms k) (3 * unread s c + 1) (λ m. send_by (λ d. read_rest m s d) s at (name_in s i) c h)
 
@@ -131,5 +131,5 @@ parts_form i at = record {
 abbrev pub parts_by : List ℕ → Cursor → ℕ → Result (Proc × Proc)
 parts_by s c m = part (bracketed_by (λ d. read_process m s d) s c) λ P d. lastly (λ Q. (P, Q)) (read_rest m s d)
 
-abbrev pub PartsTurned : ℕ → ℕ → List ℕ → List ℕ → Cursor → Tally → OrRefusal Turn → List ℕ → Type 0
+abbrev pub PartsTurned : ℕ → ℕ → List ℕ → List ℕ → Cursor → Tally → OrRefusal Turn → Cursor → Tally → List ℕ → Type 0
 PartsTurned i at s w c k = Turned (parts_form i at) s w c k (3 * unread s c + 1) (parts_by s c)

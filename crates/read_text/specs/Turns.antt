@@ -90,19 +90,20 @@ pub record Onward {A : Type 0} (F : Form A) (s w : List ℕ) (c : Cursor) (k : T
   pub later : c.at < d.at
   pub whole : (r : Out) (u : List ℕ) → ProcessRead s v d l r u → Meets F s w c k bound f r u
 
-abbrev pub TurnedOf : {A : Type 0} → Form A → List ℕ → List ℕ → Cursor → Tally → ℕ → (ℕ → Result A) → OrRefusal Turn → List ℕ → Type 0
-TurnedOf F s w c k bound f (Ok (On d l)) v = Onward F s w c k bound f v d l
-TurnedOf F s w c k bound f (Ok (Done d l)) v = Meets F s w c k bound f (Ok (d, l)) v
-TurnedOf F s w c k bound f (Err e) v = Meets F s w c k bound f (Err e) v
+abbrev pub TurnedOf : {A : Type 0} → Form A → List ℕ → List ℕ → Cursor → Tally → ℕ → (ℕ → Result A) → OrRefusal Turn → Cursor → Tally → List ℕ → Type 0
+TurnedOf F s w c k bound f (Ok On) d l v = Onward F s w c k bound f v d l
+TurnedOf F s w c k bound f (Ok Done) d l v = Meets F s w c k bound f (Ok (d, l)) v
+TurnedOf F s w c k bound f (Err e) d l v = Meets F s w c k bound f (Err e) v
 
 -- one turn: a process follows, or the answer is here
-pub record Turned {A : Type 0} (F : Form A) (s w : List ℕ) (c : Cursor) (k : Tally) (bound : ℕ) (f : ℕ → Result A) (t : OrRefusal Turn) (v : List ℕ) : Type 0 where
-  pub said : TurnedOf F s w c k bound f t v
+pub record Turned {A : Type 0} (F : Form A) (s w : List ℕ) (c : Cursor) (k : Tally) (bound : ℕ) (f : ℕ → Result A) (t : OrRefusal Turn) (d : Cursor) (l : Tally) (v : List ℕ)
+    : Type 0 where
+  pub said : TurnedOf F s w c k bound f t d l v
   pub kept : Kept w v
 
-abbrev pub TurnRead : List ℕ → List ℕ → Cursor → Tally → OrRefusal Turn → List ℕ → Type 0
+abbrev pub TurnRead : List ℕ → List ℕ → Cursor → Tally → OrRefusal Turn → Cursor → Tally → List ℕ → Type 0
 TurnRead s w c k = Turned process_form s w c k (3 * unread s c + 1) (λ m. read_process m s c)
 
 -- the rest of the term i, whose node is n
-abbrev pub RestTurned : ℕ → TermNode → List ℕ → List ℕ → Cursor → Tally → OrRefusal Turn → List ℕ → Type 0
+abbrev pub RestTurned : ℕ → TermNode → List ℕ → List ℕ → Cursor → Tally → OrRefusal Turn → Cursor → Tally → List ℕ → Type 0
 RestTurned i n s w c k = Turned (node_form i n) s w c k (3 * unread s c + 1) (λ m. read_rest m s c)

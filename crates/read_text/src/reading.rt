@@ -20,10 +20,10 @@ pub fn zero(part: &mut [u32])
 
 // The first eight words: how many entries each table has.
 #[tactic(auto, unfolding(notation::specs::Tables::write_counts))]
-fn write_counts(part: &mut [u32], k: Tally)
+fn write_counts(part: &mut [u32], k: &Tally)
     requires part_len { length part.old ≡ scratch_words }
-    requires within { Within k }
-    ensures { part.new ≡ write_counts k part.old }
+    requires within { Within k.now }
+    ensures { part.new ≡ write_counts k.now part.old }
 {
     put_word(part, 0, k.types);
     put_word(part, 1, k.processes);
@@ -47,13 +47,13 @@ fn fill(text: &[u8], part: &mut [u32]) -> Result<Script, Refusal>
             at: Script::TEXT,
         });
     }
-    let c = Cursor {
+    let mut c = Cursor {
         at: 0,
         types: 0,
         terms: 0,
         depth: 0,
     };
-    let k = Tally {
+    let mut k = Tally {
         types: 0,
         processes: 0,
         execs: 0,
@@ -64,13 +64,13 @@ fn fill(text: &[u8], part: &mut [u32]) -> Result<Script, Refusal>
         branches: 0,
         last: 0,
     };
-    match read_script(text, part, c, k) {
-        Ok((_, l)) => {
-            write_counts(part, l);
+    match read_script(text, part, &mut c, &mut k) {
+        Ok(()) => {
+            write_counts(part, &k);
             Ok(Script {
-                types: l.types,
-                processes: l.processes,
-                execs: l.execs,
+                types: k.types,
+                processes: k.processes,
+                execs: k.execs,
             })
         }
         Err(e) => {

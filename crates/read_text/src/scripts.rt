@@ -4,7 +4,7 @@ ghost use Rattle.notation.specs.Limits.{text_limit};
 ghost use Rattle.notation.specs.Onward.{width};
 ghost use Rattle.notation.specs.Scripts.{keyword, declaration_head};
 ghost use Rattle.notation.specs.declared.token.DeclarationHead.TheVariants.{TypeWord, ProcWord, ExecWord};
-ghost use Rattle.read_types.specs.Filling.{Stepped, Room};
+ghost use Rattle.read_types.specs.Filling.{taken, reached, Stepped, Room};
 ghost use Rattle.read_text.specs.Scripts.{declared_name, DeclarationRead, ScriptRead, Counted};
 
 use crate::processes::read_process;
@@ -21,89 +21,96 @@ use read_types::types::read_type;
 // The keyword of a declaration of whose kind `before` came before.
 fn keyword(
     text: &[u8],
-    c: Cursor,
+    c: &mut Cursor,
     kind: usize,
     before: usize,
     limit: usize,
-) -> Result<(u16, Cursor), Refusal>
+) -> Result<u16, Refusal>
     requires { (length text.now ≤ text_limit) × (kind ≤ 31) }
-    ensures { Stepped text.now c (width kind) 0 0 (keyword text.now kind before limit c) result }
+    ensures { Stepped text.now c.old (width kind) 0 0 (keyword text.now kind before limit c.old) (taken result c.new) }
 {
-    let (i, d) = expect(text, c, kind)?;
+    let i = expect(text, c, kind)?;
     within_limit(i, before, limit)?;
-    Ok((i, d))
+    Ok(i)
 }
 
 // The keyword, and the name that is declared.
 #[tactic(auto, unfolding(crate::specs::Scripts::declared_name))]
 fn declared_name(
     text: &[u8],
-    c: Cursor,
+    c: &mut Cursor,
     kind: usize,
     before: usize,
     limit: usize,
-) -> Result<(u16, Cursor), Refusal>
+) -> Result<u16, Refusal>
     requires { (length text.now ≤ text_limit) × (kind ≤ 31) }
-    ensures { Stepped text.now c 2 0 0 (declared_name text.now kind before limit c) result }
+    ensures { Stepped text.now c.old 2 0 0 (declared_name text.now kind before limit c.old) (taken result c.new) }
 {
-    let (_, d) = keyword(text, c, kind, before, limit)?;
-    expect(text, d, Token::NAME)
+    keyword(text, c, kind, before, limit)?;
+    expect(text, c, Token::NAME)
 }
 
 // type t = A
 fn declare_type(
     text: &[u8],
     scratch: &mut [u32],
-    c: Cursor,
-    k: Tally,
-) -> Result<(Cursor, Tally), Refusal>
-    requires { Room text.now scratch.old c k }
-    ensures { DeclarationRead TypeWord text.now scratch.old c k result scratch.new }
+    c: &mut Cursor,
+    k: &mut Tally,
+) -> Result<(), Refusal>
+    requires { Room text.now scratch.old c.old k.old }
+    ensures { DeclarationRead TypeWord text.now scratch.old c.old k.old (reached result c.new k.new) scratch.new }
 {
-    let (i, e) = declared_name(text, c, Token::TYPE, k.types, Script::TYPES)?;
-    let (_, f) = expect(text, e, Token::EQUALS)?;
-    let (g, l) = read_type(text, scratch, f, k)?;
-    Ok((g, put_type(scratch, l, i, l.last)))
+    let i = declared_name(text, c, Token::TYPE, k.types, Script::TYPES)?;
+    expect(text, c, Token::EQUALS)?;
+    read_type(text, scratch, c, k)?;
+    let node = k.last;
+    put_type(scratch, k, i, node);
+    Ok(())
 }
 
 // proc p (x : A, ..) [y : B, ..] = P
 fn declare_proc(
     text: &[u8],
     scratch: &mut [u32],
-    c: Cursor,
-    k: Tally,
-) -> Result<(Cursor, Tally), Refusal>
-    requires { Room text.now scratch.old c k }
-    ensures { DeclarationRead ProcWord text.now scratch.old c k result scratch.new }
+    c: &mut Cursor,
+    k: &mut Tally,
+) -> Result<(), Refusal>
+    requires { Room text.now scratch.old c.old k.old }
+    ensures { DeclarationRead ProcWord text.now scratch.old c.old k.old (reached result c.new k.new) scratch.new }
 {
-    let (i, e) = declared_name(text, c, Token::PROC, k.processes, Script::PROCESSES)?;
-    let (f, l) = entry_list(text, scratch, e, k, Token::ROUND_OPEN, Token::ROUND_CLOSE)?;
-    let (g, m) = entry_list(text, scratch, f, l, Token::SQUARE_OPEN, Token::SQUARE_CLOSE)?;
-    let (_, h) = expect(text, g, Token::EQUALS)?;
-    let body = pointer(text, h.at, m.terms);
-    let (z, n) = read_process(text, scratch, h, m)?;
+    let i = declared_name(text, c, Token::PROC, k.processes, Script::PROCESSES)?;
+    let first = k.entries;
+    entry_list(text, scratch, c, k, Token::ROUND_OPEN, Token::ROUND_CLOSE)?;
+    let uses = k.entries;
+    entry_list(text, scratch, c, k, Token::SQUARE_OPEN, Token::SQUARE_CLOSE)?;
+    let end = k.entries;
+    expect(text, c, Token::EQUALS)?;
+    let body = pointer(text, c.at, k.terms);
+    read_process(text, scratch, c, k)?;
     let p = ProcessEntry {
         at: i as usize,
-        first: k.entries,
-        provided: l.entries - k.entries,
-        used: m.entries - l.entries,
+        first,
+        provided: uses - first,
+        used: end - uses,
         body,
     };
-    Ok((z, put_process(scratch, n, p)))
+    put_process(scratch, k, p);
+    Ok(())
 }
 
 // exec p
 fn declare_exec(
     text: &[u8],
     scratch: &mut [u32],
-    c: Cursor,
-    k: Tally,
-) -> Result<(Cursor, Tally), Refusal>
-    requires { Room text.now scratch.old c k }
-    ensures { DeclarationRead ExecWord text.now scratch.old c k result scratch.new }
+    c: &mut Cursor,
+    k: &mut Tally,
+) -> Result<(), Refusal>
+    requires { Room text.now scratch.old c.old k.old }
+    ensures { DeclarationRead ExecWord text.now scratch.old c.old k.old (reached result c.new k.new) scratch.new }
 {
-    let (i, e) = declared_name(text, c, Token::EXEC, k.execs, Script::EXECS)?;
-    Ok((e, put_exec(scratch, k, i)))
+    let i = declared_name(text, c, Token::EXEC, k.execs, Script::EXECS)?;
+    put_exec(scratch, k, i);
+    Ok(())
 }
 
 // What a token of this kind begins where a declaration may stand.
@@ -124,19 +131,19 @@ fn declaration_head(kind: usize) -> DeclarationHead
 fn declare(
     text: &[u8],
     scratch: &mut [u32],
-    c: Cursor,
-    k: Tally,
+    c: &mut Cursor,
+    k: &mut Tally,
     head: DeclarationHead,
-) -> Result<(Cursor, Tally), Refusal>
-    requires { Room text.now scratch.old c k }
-    ensures { DeclarationRead head text.now scratch.old c k result scratch.new }
+) -> Result<(), Refusal>
+    requires { Room text.now scratch.old c.old k.old }
+    ensures { DeclarationRead head text.now scratch.old c.old k.old (reached result c.new k.new) scratch.new }
 {
     match head {
         DeclarationHead::TypeWord => declare_type(text, scratch, c, k),
         DeclarationHead::ProcWord => declare_proc(text, scratch, c, k),
         DeclarationHead::ExecWord => declare_exec(text, scratch, c, k),
-        DeclarationHead::End => Err(misfit(text, c)),
-        DeclarationHead::Other => Err(misfit(text, c)),
+        DeclarationHead::End => Err(misfit(text, c.at)),
+        DeclarationHead::Other => Err(misfit(text, c.at)),
     }
 }
 
@@ -144,21 +151,17 @@ fn declare(
 pub(crate) fn read_script(
     text: &[u8],
     scratch: &mut [u32],
-    c: Cursor,
-    k: Tally,
-) -> Result<(Cursor, Tally), Refusal>
-    requires { Room text.now scratch.old c k × Counted k }
-    ensures { ScriptRead text.now scratch.old c k result scratch.new }
+    c: &mut Cursor,
+    k: &mut Tally,
+) -> Result<(), Refusal>
+    requires { Room text.now scratch.old c.old k.old × Counted k.old }
+    ensures { ScriptRead text.now scratch.old c.old k.old (reached result c.new k.new) scratch.new }
 {
-    let mut d = c;
-    let mut l = k;
     loop {
-        let kind = kind_at(text, d.at);
+        let kind = kind_at(text, c.at);
         if kind == Token::END {
-            return Ok((d, l));
+            return Ok(());
         }
-        let (e, m) = declare(text, scratch, d, l, declaration_head(kind))?;
-        d = e;
-        l = m;
+        declare(text, scratch, c, k, declaration_head(kind))?;
     }
 }

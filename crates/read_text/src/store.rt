@@ -43,59 +43,47 @@ pub(crate) fn put_term(scratch: &mut [u32], i: usize, n: TermNode)
 
 // Appends a signature entry: the name at `at` with its type's node.
 #[tactic(auto, unfolding(notation::specs::Tables::put_entry))]
-pub(crate) fn put_entry(scratch: &mut [u32], k: Tally, at: u16, node: usize) -> Tally
-    requires { Area scratch.old × (k.entries < type_term_limit) × (at < offset_radix) × (node < type_term_limit) }
-    ensures { Put scratch.old (put_entry scratch.old k.entries at node) (more_entries k) result scratch.new }
+pub(crate) fn put_entry(scratch: &mut [u32], k: &mut Tally, at: u16, node: usize)
+    requires { Area scratch.old × (k.old.entries < type_term_limit) × (at < offset_radix) × (node < type_term_limit) }
+    ensures { Put scratch.old (put_entry scratch.old k.old.entries at node) (more_entries k.old) k.new scratch.new }
 {
     put_pair(scratch, ENTRIES_AT + k.entries, at, node);
-    Tally {
-        entries: k.entries + 1,
-        ..k
-    }
+    k.entries += 1;
 }
 
 // Appends a type: its name at `at` with its definition's node.
 #[tactic(auto, unfolding(notation::specs::Tables::put_type))]
-pub(crate) fn put_type(scratch: &mut [u32], k: Tally, at: u16, node: usize) -> Tally
-    requires { Area scratch.old × (k.types < type_limit) × (at < offset_radix) × (node < type_term_limit) }
-    ensures { Put scratch.old (put_type scratch.old k.types at node) (more_types k) result scratch.new }
+pub(crate) fn put_type(scratch: &mut [u32], k: &mut Tally, at: u16, node: usize)
+    requires { Area scratch.old × (k.old.types < type_limit) × (at < offset_radix) × (node < type_term_limit) }
+    ensures { Put scratch.old (put_type scratch.old k.old.types at node) (more_types k.old) k.new scratch.new }
 {
     let i = TYPES_AT + 2 * k.types;
     put_word(scratch, i, at as usize);
     put_word(scratch, i + 1, node);
-    Tally {
-        types: k.types + 1,
-        ..k
-    }
+    k.types += 1;
 }
 
 // Appends a process.
 #[tactic(auto, unfolding(notation::specs::Tables::put_process))]
-pub(crate) fn put_process(scratch: &mut [u32], k: Tally, p: ProcessEntry) -> Tally
-    requires area { Area scratch.old × (k.processes < process_limit) }
+pub(crate) fn put_process(scratch: &mut [u32], k: &mut Tally, p: ProcessEntry)
+    requires area { Area scratch.old × (k.old.processes < process_limit) }
     requires fits_entry { FitsEntry p }
-    ensures { Put scratch.old (put_process scratch.old k.processes p) (more_processes k) result scratch.new }
+    ensures { Put scratch.old (put_process scratch.old k.old.processes p) (more_processes k.old) k.new scratch.new }
 {
     let i = PROCESSES_AT + 4 * k.processes;
     put_word(scratch, i, p.at);
     put_word(scratch, i + 1, p.first);
     put_word(scratch, i + 2, p.provided + PROVIDED_RADIX * p.used);
     put_word(scratch, i + 3, p.body);
-    Tally {
-        processes: k.processes + 1,
-        ..k
-    }
+    k.processes += 1;
 }
 
 // Appends an exec: its process's name at `at`.
 #[tactic(auto, unfolding(notation::specs::Tables::put_exec))]
-pub(crate) fn put_exec(scratch: &mut [u32], k: Tally, at: u16) -> Tally
-    requires { Area scratch.old × (k.execs < exec_limit) × (at < offset_radix) }
-    ensures { Put scratch.old (put_exec scratch.old k.execs at) (more_execs k) result scratch.new }
+pub(crate) fn put_exec(scratch: &mut [u32], k: &mut Tally, at: u16)
+    requires { Area scratch.old × (k.old.execs < exec_limit) × (at < offset_radix) }
+    ensures { Put scratch.old (put_exec scratch.old k.old.execs at) (more_execs k.old) k.new scratch.new }
 {
     put_word(scratch, EXECS_AT + k.execs, at as usize);
-    Tally {
-        execs: k.execs + 1,
-        ..k
-    }
+    k.execs += 1;
 }

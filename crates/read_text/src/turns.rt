@@ -16,8 +16,8 @@ use read_types::steps::{expect, term_head};
 // After one term: a process follows here, or the whole process was read.
 #[derive(Clone, Copy)]
 pub enum Turn {
-    On(Cursor, Tally),
-    Done(Cursor, Tally),
+    On,
+    Done,
 }
 
 // The pointer to the process that begins at `at`: the next node's number n, or the limit and the offset of an empty one.
@@ -74,21 +74,21 @@ pub(crate) fn put_before(
 pub(crate) fn follow(
     text: &[u8],
     scratch: &mut [u32],
-    c: Cursor,
-    k: Tally,
+    c: &mut Cursor,
+    k: &Tally,
     i: usize,
     n: TermNode,
 ) -> Result<Turn, Refusal>
-    requires room { Room text.now scratch.old c k × (i < process_term_limit) }
+    requires room { Room text.now scratch.old c.old k.now × (i < process_term_limit) }
     requires fits_term { FitsTerm n }
-    ensures { RestTurned i n text.now scratch.old c k result scratch.new }
+    ensures { RestTurned i n text.now scratch.old c.old k.now result c.new k.now scratch.new }
 {
     let t = next_token(text, c.at);
     if t.kind == Token::SEMICOLON {
-        let (_, d) = expect(text, c, Token::SEMICOLON)?;
-        put_before(text, scratch, d.at, k.terms, i, n);
-        return Ok(Turn::On(d, k));
+        expect(text, c, Token::SEMICOLON)?;
+        put_before(text, scratch, c.at, k.terms, i, n);
+        return Ok(Turn::On);
     }
     put_pointing(scratch, i, n, Script::PROCESS_TERMS + t.start as usize);
-    Ok(Turn::Done(c, k))
+    Ok(Turn::Done)
 }

@@ -16,8 +16,9 @@ use Rattle.notation.specs.Refusals.{OrRefusal, refusal, refuses}
 use Rattle.notation.specs.Reader.{Taken, expect, limited, past, fault, then_token, closed, closed_taken}
 use Rattle.notation.specs.declared.token.Token.{Token}
 use Rattle.notation.specs.declared.reading.Cursor.{Cursor}
+use Rattle.notation.specs.declared.reading.Tally.{Tally}
 use Rattle.notation.specs.declared.refusal.Refusal.{Refusal}
-use Rattle.read_types.specs.Filling.{Further, Stepped, Behind, Followed}
+use Rattle.read_types.specs.Filling.{taken, reached, Further, Stepped}
 
 -- every token has a byte
 pub width_pos : (k : ℕ) → 1 ≤ width k
@@ -34,6 +35,26 @@ never e = absurd cc
 -- what goes out by `?` is the refusal that came
 pub left : {T : Type 0} {y : Refusal} (r : OrRefusal T) → IsErrAnd r (λ z. z ≡ y) → r ≡ Err y
 left r h = let p = err_from_is_err_and r h in p.1 ∙ ap (λ z. Err z) p.2
+
+-- a step's answer, with the cursor that it left; and a reading's
+module _ (c : Cursor) {y : Refusal} where
+  pub step_no : {r : OrRefusal ℕ} → r ≡ Err y → taken r c ≡ Err y
+  step_no e = ap (λ x. taken x c) e
+
+  pub step_left : (r : OrRefusal ℕ) → IsErrAnd r (λ z. z ≡ y) → taken r c ≡ Err y
+  step_left r h = step_no (left r h)
+
+  pub read_no : (k : Tally) {r : OrRefusal (Unit {0})} → r ≡ Err y → reached r c k ≡ Err y
+  read_no k e = ap (λ x. reached x c k) e
+
+  pub read_left : (k : Tally) (r : OrRefusal (Unit {0})) → IsErrAnd r (λ z. z ≡ y) → reached r c k ≡ Err y
+  read_left k r h = read_no k (left r h)
+
+pub step_at : (c : Cursor) {r : OrRefusal ℕ} {i : ℕ} → r ≡ Ok i → taken r c ≡ Ok (i, c)
+step_at c e = ap (λ x. taken x c) e
+
+pub read_at : (c : Cursor) (k : Tally) {r : OrRefusal (Unit {0})} {x : Unit {0}} → r ≡ Ok x → reached r c k ≡ Ok (c, k)
+read_at c k e = ap (λ x. reached x c k) e
 
 module _ {s : List ℕ} {c : Cursor} {n types terms : ℕ} {want : Taken} where
   pub stepped_no : (y : Refusal) → Err y ≡ want → Stepped s c n types terms want (Err y)
@@ -67,47 +88,6 @@ module _ {s : List ℕ} {c : Cursor} {n : ℕ} {want r : Taken} (u : Stepped s c
 
   pub limit_kept : {i : ℕ} {d : Cursor} → r ≡ Ok (i, d) → fits d ≡ true → Further s c n types terms i (more d) → Stepped s c n types terms (limited want fits more) (Ok (i, more d))
   limit_kept e f o = stepped_at _ _ (rw (← u.is, e, f)) o
-
--- two tokens in a row
-module _ {s : List ℕ} {c : Cursor} {n types terms : ℕ} {want r : Taken} (u : Stepped s c n types terms want r) (n' types' : ℕ) (f : Cursor → Taken) where
-  pub first_no : {y : Refusal} → r ≡ Err y → Stepped s c n' types' terms (then_token want f) r
-  first_no {y} e = rw e (stepped_no y (rw (← u.is, e)))
-
-  module _ {i : ℕ} {d : Cursor} (e : r ≡ Ok (i, d)) {k : ℕ} {q : Taken} (v : Stepped s d k 0 0 (f d) q) where
-    pub second_no : {y : Refusal} → q ≡ Err y → Stepped s c n' types' terms (then_token want f) q
-    second_no {y} g = rw g (stepped_no y (rw (← u.is, e, ← v.is, g)))
-
-    pub both_at : {j : ℕ} {b : Cursor} → q ≡ Ok (j, b) → Further s c n' types' terms i b → Stepped s c n' types' terms (then_token want f) (Ok (i, b))
-    both_at g o = stepped_at i _ (rw (← u.is, e, ← v.is, g)) o
-
--- a step, and then a token, whatever the step is of
-module _ {s : List ℕ} {step : Taken} (kind : ℕ) where
-  pub followed_no : {y : Refusal} → step ≡ Err y → Followed s step kind step
-  followed_no e = rw e (record { is = refl; on = λ i d q. never q })
-
-  module _ {i : ℕ} {d : Cursor} (e : step ≡ Ok (i, d)) {q : Taken} (v : Stepped s d (width kind) 0 0 (expect s kind d) q) where
-    pub followed_then_no : {y : Refusal} → q ≡ Err y → Followed s step kind q
-    followed_then_no g = rw g (record { is = rw (e, ← v.is, g); on = λ i d x. never x })
-
-    pub followed_at_lem : {j : ℕ} {b : Cursor} → q ≡ Ok (j, b) → Followed s step kind (Ok (i, b))
-    followed_at_lem {j} {b} g =
-        let o = v.on j b g in
-        record {
-          is = rw (e, ← v.is, g);
-          on = λ k f x.
-              let p : ◌≡◌ {A = ℕ × Cursor} (i, b) (k, f) = cc in
-              subst (λ (y : ℕ × Cursor). Behind s step kind y.0 y.1) p (d, e, o.0, o.1, omega arith, omega arith);
-        }
-
-pub followed : {s : List ℕ} {c : Cursor} {n types terms : ℕ} {want p r : Taken} {kind : ℕ} → Stepped s c n types terms want p → Followed s p kind r
-    → (n' : ℕ) → n' ≤ n + width kind → Stepped s c n' types terms (then_token want (expect s kind)) r
-followed {s} {types = types} {terms} {kind = kind} u v n' l = record {
-  is = v.is ∙ ap (λ x. then_token x (expect s kind)) u.is;
-  on = λ i e q.
-      let w = v.on i e q in
-      let o = u.on i w.0 w.1 in
-      (omega arith, w.3, o.2, w.4 ∙ o.3, subst (λ x. types * x ≤ type_term_limit) (sym w.4) o.4, w.5 ∙ o.5, subst (λ x. terms * x ≤ process_term_limit) (sym w.5) o.6);
-}
 
 -- as many brackets are open afterwards as before
 module _ {s : List ℕ} {c : Cursor} {n types terms : ℕ} {want r : Taken} (u : Stepped s c n types terms want r) where

@@ -22,7 +22,7 @@ use Rattle.notation.specs.declared.reading.Tally.{Tally}
 use Rattle.notation.specs.declared.reading.TypeNode.{TypeNode}
 use Rattle.notation.specs.declared.token.TypeHead.{TypeHead}
 use Rattle.notation.specs.declared.token.TypeHead.TheVariants.{Plus, With, Other}
-use Rattle.read_types.specs.Filling.{Out, Stepped, Closes, not_read, not_closed, read, choice_opening, is_choice, misfit_refusal, Put, Room, Meets, type_form, choice_of, unread, TypeRead, AtomRead, AlternativesRead, OneRead, NameRead, RoundRead, ChoiceRead}
+use Rattle.read_types.specs.Filling.{Out, Stepped, choice_opening, is_choice, misfit_refusal, Put, Room, Meets, type_form, choice_of, unread, TypeRead, AtomRead, AlternativesRead, OneRead, NameRead, RoundRead, ChoiceRead}
 use Rattle.read_types.proofs.Late.{alternatives_put}
 use Rattle.read_types.proofs.Filled.{same, ◌upon◌, node_kept, took, made_got, gone_on, stopped, meets_no, meets_got, more_no, more_made}
 
@@ -88,19 +88,19 @@ module _ (s w : List ℕ) (c : Cursor) (k : Tally) (room : Room s w c k) where
     round_no g h = meets_no s w c k h same (λ m _. rw (took u g))
 
     module _ {i : ℕ} {d : Cursor} (e : q ≡ Ok (i, d)) {p : Out} {v : List ℕ} (t : TypeRead s w d k p v) where
-      round_inner_no : {r : Out} {y : Refusal} → p ≡ Err y → r ≡ Err y → RoundRead s w c k r v
+      pub round_inner_no : {r : Out} {y : Refusal} → p ≡ Err y → r ≡ Err y → RoundRead s w c k r v
       round_inner_no g h =
           let o = u.on i d e in
           meets_no s w c k h t.kept (λ m lo. rw (took u e, stopped (read_type m s d) (t.is m (omega arith)) g))
 
       module _ {f : Cursor} {l : Tally} (g : p ≡ Ok (f, l)) {x : Taken} (y : Stepped s f 1 0 0 (expect s k_round_close f) x) where
-        round_close_no : {r : Out} {y : Refusal} → x ≡ Err y → r ≡ Err y → RoundRead s w c k r v
+        pub round_close_no : {r : Out} {y : Refusal} → x ≡ Err y → r ≡ Err y → RoundRead s w c k r v
         round_close_no z h =
             let o = u.on i d e in
             meets_no s w c k h t.kept
             (λ m lo. gone_on (read_type m s d) (t.is m (omega arith)) g λ A a _ _ _. rw (took u e, a, took y z))
 
-        round_got : {j : ℕ} {b : Cursor} → x ≡ Ok (j, b) → RoundRead s w c k (Ok (closed c b, l)) v
+        pub round_got : {j : ℕ} {b : Cursor} → x ≡ Ok (j, b) → RoundRead s w c k (Ok (closed c b, l)) v
         round_got {j} {b} z =
             let o = u.on i d e in
             let o₂ = t.on f l g in
@@ -108,11 +108,6 @@ module _ (s w : List ℕ) (c : Cursor) (k : Tally) (room : Room s w c k) where
             meets_got s w c k (omega arith) t.kept
             (λ m lo. gone_on (read_type m s d) (t.is m (omega arith)) g λ A a al av fi.
             made_got A (rw (took u e, a, took y z)) (ap (λ x. Ok (closed c b, x)) al) av fi)
-
-      pub round_closed : {r : Out} → Closes s c p r → RoundRead s w c k r v
-      round_closed (not_read g h) = round_inner_no g h
-      round_closed (not_closed g y z h) = round_close_no g y z h
-      round_closed (read g y z h) = rw h (round_got g y z)
 
 -- a choice's words, by its mark
 choice_after : (kind : ℕ) (r : Alternatives Located) (k : Tally) → after_type (choice_of kind r) k ≡ lasting k.nodes (after_alternatives r (more_nodes k))
@@ -231,7 +226,7 @@ module _ (s w : List ℕ) (c : Cursor) (k : Tally) (room : Room s w c k) where
         go (inl x) = atom_as (ap type_head x) (omega arith) t (λ m. rw x)
         go (inr x) = atom_as (ap type_head x) (omega arith) t (λ m. rw x)
 
-    pub atom_other : {r : Out} → (kind ≡ k_one → ⊥) → (kind ≡ k_name → ⊥) → (kind ≡ k_round_open → ⊥) → is_choice kind ≡ false → r ≡ Err (misfit_refusal s c)
+    pub atom_other : {r : Out} → (kind ≡ k_one → ⊥) → (kind ≡ k_name → ⊥) → (kind ≡ k_round_open → ⊥) → is_choice kind ≡ false → r ≡ Err (misfit_refusal s c.at)
         → AtomRead s w c k r w
     unfolding atom_by misfit
     atom_other a b c' e h = more_no type_form s w c k (λ m. read_atom m s c) h same (λ m _. atom_by_lem (head_other kind a b c' e) m)

@@ -20,6 +20,15 @@ use Rattle.notation.specs.declared.refusal.Refusal.{Refusal}
 abbrev pub Out : Type 0
 Out = OrRefusal (Cursor × Tally)
 
+-- a step's answer, with the cursor that it left; and a reading's, with the fill of the tables too
+abbrev pub taken : OrRefusal ℕ → Cursor → Taken
+taken (Ok i) c = Ok (i, c)
+taken (Err e) c = Err e
+
+abbrev pub reached : OrRefusal (Unit {0}) → Cursor → Tally → Out
+reached (Ok x) c k = Ok (c, k)
+reached (Err e) c k = Err e
+
 -- where a step goes on: n bytes later at least, within the text, with so many type terms and process terms more
 abbrev pub Further : List ℕ → Cursor → ℕ → ℕ → ℕ → ℕ → Cursor → Type 0
 Further s c n types terms i d =
@@ -36,26 +45,9 @@ pub record Stepped (s : List ℕ) (c : Cursor) (n types terms : ℕ) (want r : T
   pub is : r ≡ want
   pub on : (i : ℕ) (d : Cursor) → r ≡ Ok (i, d) → Further s c n types terms i d
 
--- before e stands a token of this kind, and before that the step p that was taken at i
-abbrev pub Behind : List ℕ → Taken → ℕ → ℕ → Cursor → Type 0
-Behind s p kind i e = (d : Cursor) × (p ≡ Ok (i, d)) × (d.at + width kind ≤ e.at) × (e.at ≤ length s) × (e.types ≡ d.types) × (e.terms ≡ d.terms)
-
--- r is the step p, and then the token of this kind
-pub record Followed (s : List ℕ) (p : Taken) (kind : ℕ) (r : Taken) : Type 0 where
-  pub is : r ≡ then_token p (expect s kind)
-  pub on : (i : ℕ) (e : Cursor) → r ≡ Ok (i, e) → Behind s p kind i e
-
--- r is the answer p, and then the bracket that closes: p's refusal, the bracket's, or p with as many open as at c
-pub data Closes (s : List ℕ) (c : Cursor) (p r : Out) : Type 0 where
-  not_read : {y : Refusal} → p ≡ Err y → r ≡ Err y → Closes s c p r
-  not_closed : {e : Cursor} {l : Tally} {x : Taken} {y : Refusal} → p ≡ Ok (e, l) → Stepped s e 1 0 0 (expect s k_round_close e) x → x ≡ Err y → r ≡ Err y
-      → Closes s c p r
-  read : {e b : Cursor} {l : Tally} {x : Taken} {j : ℕ} → p ≡ Ok (e, l) → Stepped s e 1 0 0 (expect s k_round_close e) x → x ≡ Ok (j, b) → r ≡ Ok (closed c b, l)
-      → Closes s c p r
-
 -- no token fits here
-abbrev pub misfit_refusal : List ℕ → Cursor → Refusal
-misfit_refusal s c = refusal (fault (token_at s c.at)) (token_at s c.at).start
+abbrev pub misfit_refusal : List ℕ → ℕ → Refusal
+misfit_refusal s at = refusal (fault (token_at s at)) (token_at s at).start
 
 -- the token at i, before which n were counted, is within their limit
 abbrev pub within_limit : ℕ → ℕ → ℕ → OrRefusal (Unit {0})

@@ -7,9 +7,9 @@ ghost use Rattle.notation.specs.Reader.{fault, expect, opening, type_term, proce
 ghost use Rattle.notation.specs.Types.{is_infix, label_term};
 ghost use Rattle.notation.specs.Processes.{term_head, payload};
 ghost use Rattle.notation.specs.Refusals.{refusal};
-ghost use Rattle.read_types.specs.Filling.{Stepped, Followed, Closes, is_choice, misfit_refusal, within_limit};
+ghost use Rattle.read_types.specs.Filling.{Stepped, is_choice, misfit_refusal, taken, within_limit};
 
-use notation::reading::{Cursor, Tally};
+use notation::reading::Cursor;
 use notation::refusal::Refusal;
 use notation::script::Script;
 use notation::token::{Payload, TermHead, Token, next_token};
@@ -38,37 +38,24 @@ fn fault(t: Token) -> Refusal
 }
 
 // No token fits here.
-pub fn misfit(text: &[u8], c: Cursor) -> Refusal
+pub fn misfit(text: &[u8], at: u16) -> Refusal
     requires { length text.now ≤ text_limit }
-    ensures { result ≡ misfit_refusal text.now c }
+    ensures { result ≡ misfit_refusal text.now at }
 {
-    fault(next_token(text, c.at))
+    fault(next_token(text, at))
 }
 
-// The token of this kind, or the refusal where another stands.
-pub fn expect(text: &[u8], c: Cursor, kind: usize) -> Result<(u16, Cursor), Refusal>
+// The token of this kind, which the cursor goes past; or the refusal where another stands.
+pub fn expect(text: &[u8], c: &mut Cursor, kind: usize) -> Result<u16, Refusal>
     requires { (length text.now ≤ text_limit) × (kind ≤ 31) }
-    ensures { Stepped text.now c (width kind) 0 0 (expect text.now kind c) result }
+    ensures { Stepped text.now c.old (width kind) 0 0 (expect text.now kind c.old) (taken result c.new) }
 {
     let t = next_token(text, c.at);
     if t.kind == kind {
-        return Ok((t.start, Cursor { at: t.end, ..c }));
+        c.at = t.end;
+        return Ok(t.start);
     }
     Err(fault(t))
-}
-
-// A step, and then the token of this kind; it is known by where the step began.
-pub fn then_expect(
-    text: &[u8],
-    step: Result<(u16, Cursor), Refusal>,
-    kind: usize,
-) -> Result<(u16, Cursor), Refusal>
-    requires { (length text.now ≤ text_limit) × (kind ≤ 31) }
-    ensures { Followed text.now step kind result }
-{
-    let (i, d) = step?;
-    let (_, e) = expect(text, d, kind)?;
-    Ok((i, e))
 }
 
 // The token at i, before which n were counted, is within their limit.
@@ -86,84 +73,49 @@ pub fn within_limit(i: u16, n: usize, limit: usize) -> Result<(), Refusal>
 
 // A bracket that opens.
 #[tactic(auto, unfolding(notation::specs::Reader::opening))]
-pub fn opening(text: &[u8], c: Cursor, kind: usize) -> Result<(u16, Cursor), Refusal>
+pub fn opening(text: &[u8], c: &mut Cursor, kind: usize) -> Result<u16, Refusal>
     requires { (length text.now ≤ text_limit) × (kind ≤ 31) }
-    ensures { Stepped text.now c (width kind) 0 0 (opening text.now kind c) result }
+    ensures { Stepped text.now c.old (width kind) 0 0 (opening text.now kind c.old) (taken result c.new) }
 {
-    let (i, d) = expect(text, c, kind)?;
-    within_limit(i, d.depth, Script::BRACKETS)?;
-    Ok((
-        i,
-        Cursor {
-            depth: d.depth + 1,
-            ..d
-        },
-    ))
+    let i = expect(text, c, kind)?;
+    within_limit(i, c.depth, Script::BRACKETS)?;
+    c.depth += 1;
+    Ok(i)
 }
 
 // A token that is a type term.
 #[tactic(auto, unfolding(notation::specs::Reader::type_term))]
-pub(crate) fn type_term(text: &[u8], c: Cursor, kind: usize) -> Result<(u16, Cursor), Refusal>
+pub(crate) fn type_term(text: &[u8], c: &mut Cursor, kind: usize) -> Result<u16, Refusal>
     requires { (length text.now ≤ text_limit) × (kind ≤ 31) }
-    ensures { Stepped text.now c (width kind) 1 0 (type_term text.now kind c) result }
+    ensures { Stepped text.now c.old (width kind) 1 0 (type_term text.now kind c.old) (taken result c.new) }
 {
-    let (i, d) = expect(text, c, kind)?;
-    within_limit(i, d.types, Script::TYPE_TERMS)?;
-    Ok((
-        i,
-        Cursor {
-            types: d.types + 1,
-            ..d
-        },
-    ))
+    let i = expect(text, c, kind)?;
+    within_limit(i, c.types, Script::TYPE_TERMS)?;
+    c.types += 1;
+    Ok(i)
 }
 
 // A token that begins a process term.
 #[tactic(auto, unfolding(notation::specs::Reader::process_term))]
-pub fn process_term(text: &[u8], c: Cursor, kind: usize) -> Result<(u16, Cursor), Refusal>
+pub fn process_term(text: &[u8], c: &mut Cursor, kind: usize) -> Result<u16, Refusal>
     requires { (length text.now ≤ text_limit) × (kind ≤ 31) }
-    ensures { Stepped text.now c (width kind) 0 1 (process_term text.now kind c) result }
+    ensures { Stepped text.now c.old (width kind) 0 1 (process_term text.now kind c.old) (taken result c.new) }
 {
-    let (i, d) = expect(text, c, kind)?;
-    within_limit(i, d.terms, Script::PROCESS_TERMS)?;
-    Ok((
-        i,
-        Cursor {
-            terms: d.terms + 1,
-            ..d
-        },
-    ))
+    let i = expect(text, c, kind)?;
+    within_limit(i, c.terms, Script::PROCESS_TERMS)?;
+    c.terms += 1;
+    Ok(i)
 }
 
 // A label of a list in which n came before.
 #[tactic(auto, unfolding(notation::specs::Types::label_term))]
-pub fn label_term(text: &[u8], c: Cursor, n: usize) -> Result<(u16, Cursor), Refusal>
+pub fn label_term(text: &[u8], c: &mut Cursor, n: usize) -> Result<u16, Refusal>
     requires { length text.now ≤ text_limit }
-    ensures { Stepped text.now c 2 0 0 (label_term text.now n c) result }
+    ensures { Stepped text.now c.old 2 0 0 (label_term text.now n c.old) (taken result c.new) }
 {
-    let (i, d) = expect(text, c, Token::LABEL)?;
+    let i = expect(text, c, Token::LABEL)?;
     within_limit(i, n, Script::LABELS)?;
-    Ok((i, d))
-}
-
-// What was read between round brackets, and then the bracket that closes; as many are open as at c.
-pub fn closing(
-    text: &[u8],
-    c: Cursor,
-    inner: Result<(Cursor, Tally), Refusal>,
-) -> Result<(Cursor, Tally), Refusal>
-    requires { length text.now ≤ text_limit }
-    ensures { Closes text.now c inner result }
-{
-    let (e, l) = inner?;
-    let (_, f) = expect(text, e, Token::ROUND_CLOSE)?;
-    Ok((
-        Cursor {
-            depth: c.depth,
-            ..f
-        },
-        l,
-    ))
+    Ok(i)
 }
 
 // Whether a token of this kind is the mark of a choice.

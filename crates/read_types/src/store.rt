@@ -1,11 +1,11 @@
 // The words of the tables, entry by entry.
 ghost use Rattle.std.specs.Prelude.{◌≡◌, ◌+◌, ◌<◌, ◌≤◌};
-ghost use Rattle.notation.specs.Tables.{pair_word, put_node, lasting, offset_radix, pointer_radix, table_words};
+ghost use Rattle.notation.specs.Tables.{pair_word, put_node, offset_radix, pointer_radix, table_words};
 ghost use Rattle.read_types.specs.Filling.{WordPut, ListPut, Fits};
 ghost use Rattle.notation.specs.Tables.{Area};
 ghost use Rattle.notation.specs.Limits.{label_limit, type_term_limit};
 
-use notation::reading::{Tally, TypeNode};
+use notation::reading::TypeNode;
 use notation::script::Script;
 use notation::tables::{NODES_AT, OFFSET_RADIX, TYPE_KIND_RADIX, TYPE_SECOND_UNIT};
 
@@ -57,11 +57,4 @@ pub(crate) fn put_node(scratch: &mut [u32], i: usize, n: TypeNode)
         NODES_AT + i,
         n.kind + TYPE_KIND_RADIX * n.first + TYPE_SECOND_UNIT * n.second,
     );
-}
-
-// What was read last is n.
-pub fn lasting(k: Tally, n: usize) -> Tally
-    ensures { result ≡ lasting n k }
-{
-    Tally { last: n, ..k }
 }

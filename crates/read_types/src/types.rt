@@ -4,13 +4,10 @@
 ghost use Rattle.std.specs.Prelude.{◌≡◌, ◌+◌, ◌<◌, ◌≤◌, length};
 ghost use Rattle.notation.specs.Limits.{label_limit, text_limit, type_term_limit};
 ghost use Rattle.notation.specs.Tables.{Area, put_node, more_nodes};
-ghost use Rattle.read_types.specs.Filling.{Fits, Stepped, label_colon, choice_opening, infix_kind, root_before, Waits, MarkPut, whole_root, listed, put_listed, Put, Room, TypeRead, AtomRead, AlternativesRead, OneRead, NameRead, RoundRead, ChoiceRead};
+ghost use Rattle.read_types.specs.Filling.{Fits, taken, reached, Stepped, label_colon, choice_opening, infix_kind, root_before, Waits, MarkPut, whole_root, listed, put_listed, Put, Room, TypeRead, AtomRead, AlternativesRead, OneRead, NameRead, RoundRead, ChoiceRead};
 
-use crate::steps::{
-    closing, expect, is_choice, is_infix, kind_at, label_term, misfit, opening, then_expect,
-    type_term,
-};
-use crate::store::{lasting, pair_word, put_list, put_node};
+use crate::steps::{expect, is_choice, is_infix, kind_at, label_term, misfit, opening, type_term};
+use crate::store::{pair_word, put_list, put_node};
 use notation::kinds;
 use notation::reading::{Cursor, Tally, TypeNode};
 use notation::refusal::Refusal;
@@ -23,22 +20,24 @@ const CHOICE_SHIFT: usize = Token::PLUS - kinds::PLUS;
 
 // A label and its colon.
 #[tactic(auto, unfolding(crate::specs::Filling::label_colon))]
-fn label_colon(text: &[u8], c: Cursor, n: usize) -> Result<(u16, Cursor), Refusal>
+fn label_colon(text: &[u8], c: &mut Cursor, n: usize) -> Result<u16, Refusal>
     requires { length text.now ≤ text_limit }
-    ensures { Stepped text.now c 3 0 0 (label_colon text.now n c) result }
+    ensures { Stepped text.now c.old 3 0 0 (label_colon text.now n c.old) (taken result c.new) }
 {
-    then_expect(text, label_term(text, c, n), Token::COLON)
+    let i = label_term(text, c, n)?;
+    expect(text, c, Token::COLON)?;
+    Ok(i)
 }
 
 // The mark of a choice and its brace.
 #[tactic(auto, unfolding(crate::specs::Filling::choice_opening))]
-fn choice_opening(text: &[u8], c: Cursor, kind: usize) -> Result<(u16, Cursor), Refusal>
+fn choice_opening(text: &[u8], c: &mut Cursor, kind: usize) -> Result<u16, Refusal>
     requires { (length text.now ≤ text_limit) × (kind ≤ 31) }
-    ensures { Stepped text.now c 2 1 0 (choice_opening text.now kind c) result }
+    ensures { Stepped text.now c.old 2 1 0 (choice_opening text.now kind c.old) (taken result c.new) }
 {
-    let (i, d) = type_term(text, c, kind)?;
-    let (_, e) = opening(text, d, Token::BRACE_OPEN)?;
-    Ok((i, e))
+    let i = type_term(text, c, kind)?;
+    opening(text, c, Token::BRACE_OPEN)?;
+    Ok(i)
 }
 
 // The node kind of an infix mark.
@@ -56,10 +55,10 @@ fn infix_kind(kind: usize) -> usize
 
 // The root of a type whose first atom fills the tables up to l, where a token of this kind follows.
 #[tactic(auto, unfolding(crate::specs::Filling::root_before))]
-fn root_before(kind: usize, l: Tally) -> usize
-    requires { l.last < l.nodes }
-    ensures value { result ≡ root_before kind l }
-    ensures upper_bound { result ≤ l.nodes }
+fn root_before(kind: usize, l: &Tally) -> usize
+    requires { l.now.last < l.now.nodes }
+    ensures value { result ≡ root_before kind l.now }
+    ensures upper_bound { result ≤ l.now.nodes }
 {
     if is_infix(kind) { l.nodes } else { l.last }
 }
@@ -93,88 +92,75 @@ fn whole_root(mark: usize, root: usize, right: usize) -> usize
 }
 
 // Appends a list of n alternatives, whose words were kept.
-fn put_alternatives(scratch: &mut [u32], kept: &[u32; Script::LABELS], n: usize, k: Tally) -> Tally
-    requires { Area scratch.old × (n ≤ label_limit) × (k.alternatives + n ≤ type_term_limit) }
-    ensures { Put scratch.old (put_listed kept.now n k scratch.old) (listed n k) result scratch.new }
+fn put_alternatives(scratch: &mut [u32], kept: &[u32; Script::LABELS], n: usize, k: &mut Tally)
+    requires { Area scratch.old × (n ≤ label_limit) × (k.old.alternatives + n ≤ type_term_limit) }
+    ensures { Put scratch.old (put_listed kept.now n k.old scratch.old) (listed n k.old) k.new scratch.new }
 {
     put_list(scratch, kept, n, ALTERNATIVES_AT + k.alternatives);
-    Tally {
-        alternatives: k.alternatives + n,
-        last: n,
-        ..k
-    }
+    k.alternatives += n;
+    k.last = n;
 }
 
 // Counts a node more, which was read last.
-fn more_nodes(k: Tally) -> Tally
-    requires { k.nodes < type_term_limit }
-    ensures { result ≡ more_nodes k }
+fn count_node(k: &mut Tally)
+    requires { k.old.nodes < type_term_limit }
+    ensures { k.new ≡ more_nodes k.old }
 {
-    Tally {
-        nodes: k.nodes + 1,
-        last: k.nodes,
-        ..k
-    }
+    k.last = k.nodes;
+    k.nodes += 1;
 }
 
-// Appends a node.
+// Appends a node, which was read last.
 #[tactic(auto, using(crate::proofs::Filled::node_kept))]
-fn append_node(scratch: &mut [u32], k: Tally, n: TypeNode) -> Tally
-    requires { Area scratch.old × (k.nodes < type_term_limit) × Fits n }
-    ensures { Put scratch.old (put_node scratch.old k.nodes n) (more_nodes k) result scratch.new }
+fn append_node(scratch: &mut [u32], k: &mut Tally, n: TypeNode)
+    requires { Area scratch.old × (k.old.nodes < type_term_limit) × Fits n }
+    ensures { Put scratch.old (put_node scratch.old k.old.nodes n) (more_nodes k.old) k.new scratch.new }
 {
     put_node(scratch, k.nodes, n);
-    more_nodes(k)
+    count_node(k);
 }
 
 // The type 1.
-fn one_type(
-    text: &[u8],
-    scratch: &mut [u32],
-    c: Cursor,
-    k: Tally,
-) -> Result<(Cursor, Tally), Refusal>
-    requires { Room text.now scratch.old c k }
-    ensures { OneRead text.now scratch.old c k result scratch.new }
+fn one_type(text: &[u8], scratch: &mut [u32], c: &mut Cursor, k: &mut Tally) -> Result<(), Refusal>
+    requires { Room text.now scratch.old c.old k.old }
+    ensures { OneRead text.now scratch.old c.old k.old (reached result c.new k.new) scratch.new }
 {
-    let (_, d) = type_term(text, c, Token::ONE)?;
-    let n = TypeNode {
-        kind: kinds::UNIT,
-        first: 0,
-        second: 0,
-    };
-    Ok((d, append_node(scratch, k, n)))
+    type_term(text, c, Token::ONE)?;
+    append_node(
+        scratch,
+        k,
+        TypeNode {
+            kind: kinds::UNIT,
+            first: 0,
+            second: 0,
+        },
+    );
+    Ok(())
 }
 
 // A type that is a name, which its node keeps by the offset.
-fn name_type(
-    text: &[u8],
-    scratch: &mut [u32],
-    c: Cursor,
-    k: Tally,
-) -> Result<(Cursor, Tally), Refusal>
-    requires { Room text.now scratch.old c k }
-    ensures { NameRead text.now scratch.old c k result scratch.new }
+fn name_type(text: &[u8], scratch: &mut [u32], c: &mut Cursor, k: &mut Tally) -> Result<(), Refusal>
+    requires { Room text.now scratch.old c.old k.old }
+    ensures { NameRead text.now scratch.old c.old k.old (reached result c.new k.new) scratch.new }
 {
-    let (i, d) = type_term(text, c, Token::NAME)?;
-    let n = TypeNode {
-        kind: kinds::NAMED,
-        first: 0,
-        second: i as usize,
-    };
-    Ok((d, append_node(scratch, k, n)))
+    let i = type_term(text, c, Token::NAME)?;
+    append_node(
+        scratch,
+        k,
+        TypeNode {
+            kind: kinds::NAMED,
+            first: 0,
+            second: i as usize,
+        },
+    );
+    Ok(())
 }
 
 // An atom, by what begins it.
 #[cycle(read_alternatives_read_atom_read_choice_read_round_read_type)]
-fn read_atom(
-    text: &[u8],
-    scratch: &mut [u32],
-    c: Cursor,
-    k: Tally,
-) -> Result<(Cursor, Tally), Refusal>
-    requires { Room text.now scratch.old c k }
-    ensures { AtomRead text.now scratch.old c k result scratch.new }
+fn read_atom(text: &[u8], scratch: &mut [u32], c: &mut Cursor, k: &mut Tally) -> Result<(), Refusal>
+    requires { Room text.now scratch.old c.old k.old }
+    ensures { AtomRead text.now scratch.old c.old k.old (reached result c.new k.new) scratch.new }
 {
     let kind = kind_at(text, c.at);
     if kind == Token::ONE {
@@ -189,23 +175,26 @@ fn read_atom(
     if is_choice(kind) {
         return read_choice(text, scratch, c, k, kind);
     }
-    Err(misfit(text, c))
+    Err(misfit(text, c.at))
 }
 
-// A type in round brackets.
+// A type in round brackets; as many are open afterwards as before.
 #[cycle(read_alternatives_read_atom_read_choice_read_round_read_type)]
 fn read_round(
     text: &[u8],
     scratch: &mut [u32],
-    c: Cursor,
-    k: Tally,
-) -> Result<(Cursor, Tally), Refusal>
-    requires { Room text.now scratch.old c k }
-    ensures { RoundRead text.now scratch.old c k result scratch.new }
+    c: &mut Cursor,
+    k: &mut Tally,
+) -> Result<(), Refusal>
+    requires { Room text.now scratch.old c.old k.old }
+    ensures { RoundRead text.now scratch.old c.old k.old (reached result c.new k.new) scratch.new }
 {
-    let (_, d) = opening(text, c, Token::ROUND_OPEN)?;
-    let inner = read_type(text, scratch, d, k);
-    closing(text, c, inner)
+    let depth = c.depth;
+    opening(text, c, Token::ROUND_OPEN)?;
+    read_type(text, scratch, c, k)?;
+    expect(text, c, Token::ROUND_CLOSE)?;
+    c.depth = depth;
+    Ok(())
 }
 
 // A choice whose mark has this kind: `+`, 28, or `&`, 29. It has its number before its alternatives, and its node after them.
@@ -213,33 +202,32 @@ fn read_round(
 fn read_choice(
     text: &[u8],
     scratch: &mut [u32],
-    c: Cursor,
-    k: Tally,
+    c: &mut Cursor,
+    k: &mut Tally,
     kind: usize,
-) -> Result<(Cursor, Tally), Refusal>
-    requires room { Room text.now scratch.old c k }
+) -> Result<(), Refusal>
+    requires room { Room text.now scratch.old c.old k.old }
     requires le_kind { (28 ≤ kind) × (kind ≤ 29) }
-    ensures { ChoiceRead kind text.now scratch.old c k result scratch.new }
+    ensures { ChoiceRead kind text.now scratch.old c.old k.old (reached result c.new k.new) scratch.new }
 {
-    let (_, d) = choice_opening(text, c, kind)?;
-    let (e, l) = read_alternatives(text, scratch, d, more_nodes(k))?;
-    let (_, f) = expect(text, e, Token::BRACE_CLOSE)?;
+    let depth = c.depth;
+    choice_opening(text, c, kind)?;
+    let i = k.nodes;
+    count_node(k);
+    read_alternatives(text, scratch, c, k)?;
+    expect(text, c, Token::BRACE_CLOSE)?;
+    c.depth = depth;
     put_node(
         scratch,
-        k.nodes,
+        i,
         TypeNode {
             kind: kind - CHOICE_SHIFT,
-            first: l.alternatives,
-            second: l.last,
+            first: k.alternatives,
+            second: k.last,
         },
     );
-    Ok((
-        Cursor {
-            depth: c.depth,
-            ..f
-        },
-        lasting(l, k.nodes),
-    ))
+    k.last = i;
+    Ok(())
 }
 
 // The alternatives of a choice; the words of those that were read are kept until the list ends.
@@ -247,27 +235,24 @@ fn read_choice(
 fn read_alternatives(
     text: &[u8],
     scratch: &mut [u32],
-    c: Cursor,
-    k: Tally,
-) -> Result<(Cursor, Tally), Refusal>
-    requires { Room text.now scratch.old c k }
-    ensures { AlternativesRead text.now scratch.old c k result scratch.new }
+    c: &mut Cursor,
+    k: &mut Tally,
+) -> Result<(), Refusal>
+    requires { Room text.now scratch.old c.old k.old }
+    ensures { AlternativesRead text.now scratch.old c.old k.old (reached result c.new k.new) scratch.new }
 {
-    let mut d = c;
-    let mut l = k;
     let mut n: usize = 0;
     let mut kept: [u32; Script::LABELS] = [0; Script::LABELS];
     loop {
-        let (i, e) = label_colon(text, d, n)?;
-        let (f, m) = read_type(text, scratch, e, l)?;
-        kept[n] = pair_word(i, m.last);
+        let i = label_colon(text, c, n)?;
+        read_type(text, scratch, c, k)?;
+        kept[n] = pair_word(i, k.last);
         n += 1;
-        if kind_at(text, f.at) == Token::COMMA {
-            let (_, g) = expect(text, f, Token::COMMA)?;
-            d = g;
-            l = m;
+        if kind_at(text, c.at) == Token::COMMA {
+            expect(text, c, Token::COMMA)?;
         } else {
-            return Ok((f, put_alternatives(scratch, &kept, n, m)));
+            put_alternatives(scratch, &kept, n, k);
+            return Ok(());
         }
     }
 }
@@ -277,31 +262,30 @@ fn read_alternatives(
 pub fn read_type(
     text: &[u8],
     scratch: &mut [u32],
-    c: Cursor,
-    k: Tally,
-) -> Result<(Cursor, Tally), Refusal>
-    requires { Room text.now scratch.old c k }
-    ensures { TypeRead text.now scratch.old c k result scratch.new }
+    c: &mut Cursor,
+    k: &mut Tally,
+) -> Result<(), Refusal>
+    requires { Room text.now scratch.old c.old k.old }
+    ensures { TypeRead text.now scratch.old c.old k.old (reached result c.new k.new) scratch.new }
 {
-    let mut d = c;
-    let mut l = k;
     let mut mark = Token::END;
     let mut left: usize = 0;
     let mut root: usize = 0;
     loop {
-        let (e, m) = read_atom(text, scratch, d, l)?;
-        let next = kind_at(text, e.at);
-        let right = root_before(next, m);
-        put_infix(scratch, l.last, mark, left, right);
+        let waiting = k.last;
+        read_atom(text, scratch, c, k)?;
+        let next = kind_at(text, c.at);
+        let right = root_before(next, k);
+        put_infix(scratch, waiting, mark, left, right);
         root = whole_root(mark, root, right);
         if is_infix(next) {
-            let (_, f) = type_term(text, e, next)?;
-            d = f;
-            l = more_nodes(m);
+            type_term(text, c, next)?;
             mark = next;
-            left = m.last;
+            left = k.last;
+            count_node(k);
         } else {
-            return Ok((e, lasting(m, root)));
+            k.last = root;
+            return Ok(());
         }
     }
 }

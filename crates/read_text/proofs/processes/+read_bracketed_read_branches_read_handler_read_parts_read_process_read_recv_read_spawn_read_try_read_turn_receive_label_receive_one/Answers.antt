@@ -1,5 +1,5 @@
 use native.Mathlib.Omega.{arith}
-use Rattle.read_text.proofs.ProcessPaths.{bracketed_no, bracketed_closed}
+use Rattle.read_text.proofs.ProcessPaths.{not_read, not_closed, read, bracketed_no, bracketed_closed}
 use mathlib.Core.Path.{refl, ap, sym, ◌∙◌}
 use borrow.Author.Tests.{eq-eqb, ne_eqb}
 use Rattle.read_text.proofs.BranchPaths.{keeping_start, keeping_on, branch_few, branches_no, branches_inner_no, branches_bar_no, branches_end}
@@ -13,22 +13,11 @@ use Rattle.read_text.proofs.ProcessPaths.{turn_by, turn_read, turn_read_no, turn
 use Rattle.read_text.proofs.Turning.{head_is}
 use Rattle.read_text.proofs.ProcessPaths.{labels_no, labels_got}
 use Rattle.read_text.proofs.ProcessPaths.{one_no, one_read}
-use Rattle.read_types.proofs.Taking.{left}
+use Rattle.read_types.proofs.Taking.{left, step_no, step_at, read_no, read_at, read_left}
 use Rattle.std.specs.Prelude.{Err, Ok}
 use Rattle.read_text.proofs.processes.+read_bracketed_read_branches_read_handler_read_parts_read_process_read_recv_read_spawn_read_try_read_turn_receive_label_receive_one.Goals as goal
-use Rattle.read_text.proofs.processes.+read_bracketed_read_branches_read_handler_read_parts_read_process_read_recv_read_spawn_read_try_read_turn_receive_label_receive_one.Goals.{read_turn-in-Recv+in_ok-ended-in-Recv, read_turn-in-Fwd+in_ok-ended-in-Fwd, read_turn-in-Call+in_ok-ended-in-Call, read_turn-in-Try+in_ok-ended-in-Try, read_turn-in-Empty}
 use Rattle.notation.proofs.Tokens.{token_onward}
 use Rattle.notation.specs.declared.token.TermHead.{TermHead}
-
-pub read_bracketed-returns-in_err-d : goal.read_bracketed-returns-in_err-d
-read_bracketed-returns-in_err-d t c =
-    bracketed_no _ _ _ _ c.requires c.opening.ensures
-    c.in_err-d.was (left _ c.from_residual.ensures.1)
-
-pub read_bracketed-returns : goal.read_bracketed-returns
-read_bracketed-returns t c =
-    bracketed_closed _ _ _ _ c.requires c.opening.ensures c.in_ok-d.was
-    c.read_process-inner.ensures c.closing.ensures
 
 pub read_branches-loop-i-init : goal.read_branches-loop-i-init
 read_branches-loop-i-init t c = keeping_start _ refl c.requires
@@ -36,36 +25,36 @@ read_branches-loop-i-init t c = keeping_start _ refl c.requires
 pub read_branches-returns-in_err-i : goal.read_branches-returns-in_err-i
 read_branches-returns-in_err-i t c =
     branches_no _ _ _ _ _ c.loop-i.invariant c.label_then.ensures
-    c.in_err-i.was (left _ c.from_residual.ensures.1)
+    (step_no _ c.in_err-i.was) (read_left _ _ _ c.from_residual.ensures.1)
 
-pub read_branches-returns-in_err-f : goal.read_branches-returns-in_err-f
-read_branches-returns-in_err-f t c =
+pub read_branches-returns-in_err-read_process : goal.read_branches-returns-in_err-read_process
+read_branches-returns-in_err-read_process t c =
     branches_inner_no _ _ _ _ _ c.loop-i.invariant c.label_then.ensures
-    c.in_ok-i.was c.read_process.ensures c.in_err-f.was (left _ c.from_residual-in_err-f.ensures.1)
+    (step_at _ c.in_ok-i.was) c.read_process.ensures (read_no _ _ c.in_err-read_process.was) (read_left _ _ _ c.from_residual-in_err-read_process.ensures.1)
 
 pub read_branches-bounds-kept-n : goal.read_branches-bounds-kept-n
 read_branches-bounds-kept-n t c =
     omega (
       arith,
-      branch_few _ _ _ c.label_then.ensures c.in_ok-i.was,
+      branch_few _ _ _ c.label_then.ensures (step_at _ c.in_ok-i.was),
       c.loop-i.invariant.wide,
     )
 
-pub read_branches-returns-in_err-g : goal.read_branches-returns-in_err-g
-read_branches-returns-in_err-g t c =
+pub read_branches-returns-in_err-expect : goal.read_branches-returns-in_err-expect
+read_branches-returns-in_err-expect t c =
     branches_bar_no _ _ _ _ _ c.loop-i.invariant
-    c.label_then.ensures c.in_ok-i.was
-    c.read_process.ensures c.in_ok-f.was c.pointer-p.ensures.value
+    c.label_then.ensures (step_at _ c.in_ok-i.was)
+    c.read_process.ensures (read_at _ _ c.in_ok-read_process.was) c.pointer-p.ensures.value
     c.pair_word.ensures (eq-eqb _ _ (sym c.kind_at.ensures ∙ c.if-kind_at-eq-BAR.true))
-    c.expect.ensures c.in_err-g.was (left _ c.from_residual-in_err-g.ensures.1)
+    c.expect.ensures (step_no _ c.in_err-expect.was) (read_left _ _ _ c.from_residual-in_err-expect.ensures.1)
 
 pub read_branches-loop-i-preserved : goal.read_branches-loop-i-preserved
 read_branches-loop-i-preserved t c =
     keeping_on _ _ _ _ _ c.loop-i.invariant
-    c.label_then.ensures c.in_ok-i.was
-    c.read_process.ensures c.in_ok-f.was c.pointer-p.ensures.value
+    c.label_then.ensures (step_at _ c.in_ok-i.was)
+    c.read_process.ensures (read_at _ _ c.in_ok-read_process.was) c.pointer-p.ensures.value
     c.pair_word.ensures (eq-eqb _ _ (sym c.kind_at.ensures ∙ c.if-kind_at-eq-BAR.true))
-    c.expect.ensures c.in_ok-g.was
+    c.expect.ensures (step_at _ c.in_ok-expect.was)
 
 pub read_branches-put_list-requires : goal.read_branches-put_list-requires
 read_branches-put_list-requires t c =
@@ -76,18 +65,18 @@ read_branches-put_list-requires t c =
       arith,
       loop.invariant.room,
       loop.invariant.bytes,
-      branch_few _ _ _ label_then_lem.ensures c.in_ok-i.was,
+      branch_few _ _ _ label_then_lem.ensures (step_at _ c.in_ok-i.was),
       label_then_lem.ensures.on _ _
-          c.in_ok-i.was,
-      read_process_lem.ensures.on _ _ c.in_ok-f.was,
+          (step_at _ c.in_ok-i.was),
+      read_process_lem.ensures.on _ _ (read_at _ _ c.in_ok-read_process.was),
       read_process_lem.ensures.kept.long,
     )
 
 pub read_branches-returns-else-kind_at-eq-BAR : goal.read_branches-returns-else-kind_at-eq-BAR
 read_branches-returns-else-kind_at-eq-BAR t c =
     branches_end _ _ _ _ _ c.loop-i.invariant
-    c.label_then.ensures c.in_ok-i.was
-    c.read_process.ensures c.in_ok-f.was c.pointer-p.ensures.value
+    c.label_then.ensures (step_at _ c.in_ok-i.was)
+    c.read_process.ensures (read_at _ _ c.in_ok-read_process.was) c.pointer-p.ensures.value
     c.pair_word.ensures (ne_eqb _ _ (λ e. c.if-kind_at-eq-BAR.false (c.kind_at.ensures ∙ e)))
     c.put_list.ensures
 
@@ -113,83 +102,69 @@ read_handler-returns-in-Other t c = handler_other _ _ _ _ _ _ (sym c.payload_at-
 
 pub read_parts-returns : goal.read_parts-returns
 read_parts-returns t c =
-    parts_on _ _ _ _ c.requires.room.0 _ _ c.read_bracketed.ensures c.in_ok-d.was
+    parts_on _ _ _ _ c.requires.room.0 _ _ c.read_bracketed.ensures (read_at _ _ c.in_ok-read_bracketed.was)
     c.pointer_within-second.ensures.value c.follow.ensures
-
-pub read_process-returns-in_err-e : goal.read_process-returns-in_err-e
-read_process-returns-in_err-e t c =
-    turns_no c.loop-e.invariant c.read_turn.ensures c.in_err-e.was (left _ c.from_residual.ensures.1)
-
-pub read_process-loop-e-preserved : goal.read_process-loop-e-preserved
-read_process-loop-e-preserved t c =
-    turns_on c.loop-e.invariant c.read_turn.ensures (c.in_ok-e.was ∙ ap (λ x. Ok x) c.in-On.is)
 
 pub read_recv-returns-in_err-at : goal.read_recv-returns-in_err-at
 read_recv-returns-in_err-at t c =
     recv_no _ _ _ _ c.requires c.process_term.ensures
-    c.in_err-at.was (left _ c.from_residual.ensures.1)
+    (step_no _ c.in_err-at.was) (read_left _ _ _ c.from_residual.ensures.1)
 
 pub read_recv-returns-in_err-i : goal.read_recv-returns-in_err-i
 read_recv-returns-in_err-i t c =
     recv_name_no _ _ _ _ c.requires
-    c.process_term.ensures c.in_ok-at.was
-    c.expect.ensures c.in_err-i.was (left _ c.from_residual-in_err-i.ensures.1)
+    c.process_term.ensures (step_at _ c.in_ok-at.was)
+    c.expect.ensures (step_no _ c.in_err-i.was) (read_left _ _ _ c.from_residual-in_err-i.ensures.1)
 
-pub read_recv-returns-in_err-f : goal.read_recv-returns-in_err-f
-read_recv-returns-in_err-f t c =
-    recv_open_no _ _ _ _ c.requires c.process_term.ensures c.in_ok-at.was
-    c.expect.ensures c.in_ok-i.was c.opening.ensures
-    c.in_err-f.was (left _ c.from_residual-in_err-f.ensures.1)
-
-pub read_recv-returns : goal.read_recv-returns
-read_recv-returns t c =
-    recv_closed _ _ _ _ c.requires c.process_term.ensures c.in_ok-at.was
-    c.expect.ensures c.in_ok-i.was c.opening.ensures
-    c.in_ok-f.was c.read_handler-inner.ensures c.closing.ensures
+pub read_recv-returns-in_err-opening : goal.read_recv-returns-in_err-opening
+read_recv-returns-in_err-opening t c =
+    recv_open_no _ _ _ _ c.requires c.process_term.ensures (step_at _ c.in_ok-at.was)
+    c.expect.ensures (step_at _ c.in_ok-i.was) c.opening.ensures
+    (step_no _ c.in_err-opening.was) (read_left _ _ _ c.from_residual-in_err-opening.ensures.1)
 
 pub read_spawn-returns-in_err-at : goal.read_spawn-returns-in_err-at
 read_spawn-returns-in_err-at t c =
     spawn_no _ _ _ _ c.requires c.name_colon.ensures
-    c.in_err-at.was (left _ c.from_residual.ensures.1)
+    (step_no _ c.in_err-at.was) (left _ c.from_residual.ensures.1)
 
-pub read_spawn-returns-in_err-e : goal.read_spawn-returns-in_err-e
-read_spawn-returns-in_err-e t c =
-    spawn_type_no _ _ _ _ c.requires c.name_colon.ensures c.in_ok-at.was
-    c.read_type.ensures c.in_err-e.was (left _ c.from_residual-in_err-e.ensures.1)
+pub read_spawn-returns-in_err-read_type : goal.read_spawn-returns-in_err-read_type
+read_spawn-returns-in_err-read_type t c =
+    spawn_type_no _ _ _ _ c.requires c.name_colon.ensures (step_at _ c.in_ok-at.was)
+    c.read_type.ensures (read_no _ _ c.in_err-read_type.was) (left _ c.from_residual-in_err-read_type.ensures.1)
 
-pub read_spawn-returns-in_err-f : goal.read_spawn-returns-in_err-f
-read_spawn-returns-in_err-f t c =
-    spawn_arrow_no _ _ _ _ c.requires c.name_colon.ensures c.in_ok-at.was
-    c.read_type.ensures c.in_ok-e.was c.expect.ensures
-    c.in_err-f.was (left _ c.from_residual-in_err-f.ensures.1)
+pub read_spawn-returns-in_err-expect : goal.read_spawn-returns-in_err-expect
+read_spawn-returns-in_err-expect t c =
+    spawn_arrow_no _ _ _ _ c.requires c.name_colon.ensures (step_at _ c.in_ok-at.was)
+    c.read_type.ensures (read_at _ _ c.in_ok-read_type.was) c.expect.ensures
+    (step_no _ c.in_err-expect.was) (left _ c.from_residual-in_err-expect.ensures.1)
 
 pub read_spawn-returns : goal.read_spawn-returns
 read_spawn-returns t c =
-    spawn_on _ _ _ _ c.requires c.name_colon.ensures c.in_ok-at.was
-    c.read_type.ensures c.in_ok-e.was c.expect.ensures
-    c.in_ok-f.was c.read_parts.ensures
+    spawn_on _ _ _ _ c.requires c.name_colon.ensures (step_at _ c.in_ok-at.was)
+    c.read_type.ensures (read_at _ _ c.in_ok-read_type.was) c.expect.ensures
+    (step_at _ c.in_ok-expect.was) c.read_parts.ensures
 
 pub read_try-returns-in_err-at : goal.read_try-returns-in_err-at
 read_try-returns-in_err-at t c =
     try_no _ _ _ _ c.requires c.process_term.ensures
-    c.in_err-at.was (left _ c.from_residual.ensures.1)
+    (step_no _ c.in_err-at.was) (read_left _ _ _ c.from_residual.ensures.1)
 
-pub read_try-returns-in_err-e : goal.read_try-returns-in_err-e
-read_try-returns-in_err-e t c =
-    try_main_no _ _ _ _ c.requires c.process_term.ensures c.in_ok-at.was
-    c.read_bracketed.ensures c.in_err-e.was (left _ c.from_residual-in_err-e.ensures.1)
+pub read_try-returns-in_err-read_bracketed : goal.read_try-returns-in_err-read_bracketed
+read_try-returns-in_err-read_bracketed t c =
+    try_main_no _ _ _ _ c.requires c.process_term.ensures (step_at _ c.in_ok-at.was)
+    c.read_bracketed.ensures (read_no _ _ c.in_err-read_bracketed.was) (read_left _ _ _ c.from_residual-in_err-read_bracketed.ensures.1)
 
-pub read_try-returns-in_err-f : goal.read_try-returns-in_err-f
-read_try-returns-in_err-f t c =
-    try_catch_no _ _ _ _ c.requires c.process_term.ensures c.in_ok-at.was
-    c.read_bracketed.ensures c.in_ok-e.was c.expect.ensures
-    c.in_err-f.was (left _ c.from_residual-in_err-f.ensures.1)
+pub read_try-returns-in_err-expect : goal.read_try-returns-in_err-expect
+read_try-returns-in_err-expect t c =
+    try_catch_no _ _ _ _ c.requires c.process_term.ensures (step_at _ c.in_ok-at.was)
+    c.read_bracketed.ensures (read_at _ _ c.in_ok-read_bracketed.was) c.expect.ensures
+    (step_no _ c.in_err-expect.was) (read_left _ _ _ c.from_residual-in_err-expect.ensures.1)
 
 pub read_try-returns : goal.read_try-returns
 read_try-returns t c =
-    try_read _ _ _ _ c.requires c.process_term.ensures c.in_ok-at.was
-    c.read_bracketed.ensures c.in_ok-e.was c.expect.ensures
-    c.in_ok-f.was c.pointer_within-second.ensures.value
+    try_read _ _ _ _ c.requires c.process_term.ensures (step_at _ c.in_ok-at.was)
+    c.read_bracketed.ensures (read_at _ _ c.in_ok-read_bracketed.was) c.expect.ensures
+    (step_at _ c.in_ok-expect.was) c.pointer_within-second.ensures.value
     c.pointer_within-third.ensures.value c.put_term.ensures c.read_bracketed-2.ensures
 
 pub read_turn-returns-in-Send : goal.read_turn-returns-in-Send
@@ -219,49 +194,105 @@ read_turn-returns-in-Spawn t c =
 pub receive_label-returns : goal.receive_label-returns
 receive_label-returns t c =
     labels_got _ _ _ _ c.requires.room _ _ c.requires.at_lt_text_limit.0 c.requires.at_lt_text_limit.1
-    c.read_branches.ensures c.in_ok-d.was c.put_term.ensures
+    c.read_branches.ensures (read_at _ _ c.in_ok-read_branches.was) c.put_term.ensures
 
 pub receive_one-returns : goal.receive_one-returns
 receive_one-returns t c =
     one_read _ _ _ _ c.requires.room _ _ c.requires.at_lt_text_limit.0 c.requires.at_lt_text_limit.1 _ c.payload_then.ensures c.requires.at_lt_text_limit.2
-    c.in_ok-j.was c.payload_node-n.ensures.value c.put_before.ensures
+    (step_at _ c.in_ok-j.was) c.payload_node-n.ensures.value c.put_before.ensures
     c.read_process.ensures
 
-pub read_turn-returns-in_err-ended-in-Recv : goal.read_turn-returns-in_err-ended-in-Recv
-read_turn-returns-in_err-ended-in-Recv t c =
-    turn_read_no _ _ _ _ c.requires _ (head_is _ _ c.kind_at.ensures c.term_head.ensures c.in-Recv.is)
-    c.read_recv.ensures c.in_err-ended-in-Recv.was (left _ c.from_residual.ensures.1)
+pub read_bracketed-returns-in_err-opening : goal.read_bracketed-returns-in_err-opening
+read_bracketed-returns-in_err-opening t c =
+    bracketed_no _ _ _ _ c.requires c.opening.ensures (step_no _ c.in_err-opening.was) (read_left _ _ _ c.from_residual.ensures.1)
 
-pub read_turn-returns-in_err-ended-in-Fwd : goal.read_turn-returns-in_err-ended-in-Fwd
-read_turn-returns-in_err-ended-in-Fwd t c =
-    turn_read_no _ _ _ _ c.requires _ (head_is _ _ c.kind_at.ensures c.term_head.ensures c.in-Fwd.is)
-    c.read_fwd.ensures c.in_err-ended-in-Fwd.was (left _ c.from_residual-in_err-ended-in-Fwd.ensures.1)
+pub read_bracketed-returns-in_err-read_process : goal.read_bracketed-returns-in_err-read_process
+read_bracketed-returns-in_err-read_process t c =
+    bracketed_closed _ _ _ _ c.requires c.opening.ensures (step_at _ c.in_ok-opening.was) c.read_process.ensures
+    (not_read (read_no _ _ c.in_err-read_process.was) (read_left _ _ _ c.from_residual-in_err-read_process.ensures.1))
 
-pub read_turn-returns-in_err-ended-in-Call : goal.read_turn-returns-in_err-ended-in-Call
-read_turn-returns-in_err-ended-in-Call t c =
-    turn_read_no _ _ _ _ c.requires _ (head_is _ _ c.kind_at.ensures c.term_head.ensures c.in-Call.is)
-    c.read_call.ensures c.in_err-ended-in-Call.was (left _ c.from_residual-in_err-ended-in-Call.ensures.1)
+pub read_bracketed-returns-in_err-expect : goal.read_bracketed-returns-in_err-expect
+read_bracketed-returns-in_err-expect t c =
+    bracketed_closed _ _ _ _ c.requires c.opening.ensures (step_at _ c.in_ok-opening.was) c.read_process.ensures
+    (not_closed (read_at _ _ c.in_ok-read_process.was) c.expect.ensures (step_no _ c.in_err-expect.was) (read_left _ _ _ c.from_residual-in_err-expect.ensures.1))
 
-pub read_turn-returns-in_err-ended-in-Try : goal.read_turn-returns-in_err-ended-in-Try
-read_turn-returns-in_err-ended-in-Try t c =
-    turn_read_no _ _ _ _ c.requires _ (head_is _ _ c.kind_at.ensures c.term_head.ensures c.in-Try.is)
-    c.read_try.ensures c.in_err-ended-in-Try.was (left _ c.from_residual-in_err-ended-in-Try.ensures.1)
+pub read_bracketed-returns : goal.read_bracketed-returns
+read_bracketed-returns t c =
+    bracketed_closed _ _ _ _ c.requires c.opening.ensures (step_at _ c.in_ok-opening.was) c.read_process.ensures
+    (read (read_at _ _ c.in_ok-read_process.was) c.expect.ensures (step_at _ c.in_ok-expect.was) refl)
 
-pub read_turn-returns : goal.read_turn-returns
-read_turn-returns t c =
-    let head = λ (x : TermHead). head_is _ _ {x = x} c.kind_at.ensures c.term_head.ensures in
-    elim c.match-term_head.branch [
-      | read_turn-in-Recv+in_ok-ended-in-Recv w ↦ rw (w.ended-is, w.scratch-is)
-          (turn_read _ _ _ _ c.requires _ (head _ w.in-Recv.is) w.read_recv.ensures w.in_ok-ended-in-Recv.was)
-      | read_turn-in-Fwd+in_ok-ended-in-Fwd w ↦ rw (w.ended-is, w.scratch-is)
-          (turn_read _ _ _ _ c.requires _ (head _ w.in-Fwd.is) w.read_fwd.ensures w.in_ok-ended-in-Fwd.was)
-      | read_turn-in-Call+in_ok-ended-in-Call w ↦ rw (w.ended-is, w.scratch-is)
-          (turn_read _ _ _ _ c.requires _ (head _ w.in-Call.is) w.read_call.ensures w.in_ok-ended-in-Call.was)
-      | read_turn-in-Try+in_ok-ended-in-Try w ↦ rw (w.ended-is, w.scratch-is)
-          (turn_read _ _ _ _ c.requires _ (head _ w.in-Try.is) w.read_try.ensures w.in_ok-ended-in-Try.was)
-      | read_turn-in-Empty w ↦ rw (w.ended-is, w.scratch-is)
-          (turn_empty _ _ _ _ c.requires (head _ w.in-Empty.is) (omega (arith, c.requires, (token_onward c.args.text.now c.args.c.at).starts)))
-    ]
+pub read_recv-returns-in_err-read_handler : goal.read_recv-returns-in_err-read_handler
+read_recv-returns-in_err-read_handler t c =
+    recv_closed _ _ _ _ c.requires c.process_term.ensures (step_at _ c.in_ok-at.was)
+    c.expect.ensures (step_at _ c.in_ok-i.was) c.opening.ensures
+    (step_at _ c.in_ok-opening.was) c.read_handler.ensures
+    (not_read (read_no _ _ c.in_err-read_handler.was) (read_left _ _ _ c.from_residual-in_err-read_handler.ensures.1))
+
+pub read_recv-returns-in_err-expect : goal.read_recv-returns-in_err-expect
+read_recv-returns-in_err-expect t c =
+    recv_closed _ _ _ _ c.requires c.process_term.ensures (step_at _ c.in_ok-at.was)
+    c.expect.ensures (step_at _ c.in_ok-i.was) c.opening.ensures
+    (step_at _ c.in_ok-opening.was) c.read_handler.ensures
+    (not_closed (read_at _ _ c.in_ok-read_handler.was) c.expect-2.ensures (step_no _ c.in_err-expect.was) (read_left _ _ _ c.from_residual-in_err-expect.ensures.1))
+
+pub read_recv-returns : goal.read_recv-returns
+read_recv-returns t c =
+    recv_closed _ _ _ _ c.requires c.process_term.ensures (step_at _ c.in_ok-at.was)
+    c.expect.ensures (step_at _ c.in_ok-i.was) c.opening.ensures
+    (step_at _ c.in_ok-opening.was) c.read_handler.ensures
+    (read (read_at _ _ c.in_ok-read_handler.was) c.expect-2.ensures (step_at _ c.in_ok-expect.was) refl)
+
+pub read_process-returns-in_err-read_turn : goal.read_process-returns-in_err-read_turn
+read_process-returns-in_err-read_turn t c =
+    turns_no c.loop.invariant c.read_turn.ensures c.in_err-read_turn.was (read_left _ _ _ c.from_residual.ensures.1)
+
+pub read_process-loop-preserved : goal.read_process-loop-preserved
+read_process-loop-preserved t c = turns_on c.loop.invariant c.read_turn.ensures (c.in_ok-read_turn.was ∙ ap (λ x. Ok x) c.in-On.is)
 
 pub read_process-returns-in-Done : goal.read_process-returns-in-Done
-read_process-returns-in-Done t c = turns_end c.loop-e.invariant c.read_turn.ensures (c.in_ok-e.was ∙ ap (λ x. Ok x) c.in-Done.is)
+read_process-returns-in-Done t c = turns_end c.loop.invariant c.read_turn.ensures (c.in_ok-read_turn.was ∙ ap (λ x. Ok x) c.in-Done.is)
+
+pub read_turn-returns-in_err-read_recv-in-Recv : goal.read_turn-returns-in_err-read_recv-in-Recv
+read_turn-returns-in_err-read_recv-in-Recv t c =
+    turn_read_no _ _ _ _ c.requires _ (head_is _ _ c.kind_at.ensures c.term_head.ensures c.in-Recv.is) c.read_recv.ensures
+    (read_no _ _ c.in_err-read_recv-in-Recv.was) (left _ c.from_residual.ensures.1)
+
+pub read_turn-returns-in_ok-read_recv-in-Recv : goal.read_turn-returns-in_ok-read_recv-in-Recv
+read_turn-returns-in_ok-read_recv-in-Recv t c =
+    turn_read _ _ _ _ c.requires _ (head_is _ _ c.kind_at.ensures c.term_head.ensures c.in-Recv.is) c.read_recv.ensures
+    (read_at _ _ c.in_ok-read_recv-in-Recv.was)
+
+pub read_turn-returns-in_err-read_fwd-in-Fwd : goal.read_turn-returns-in_err-read_fwd-in-Fwd
+read_turn-returns-in_err-read_fwd-in-Fwd t c =
+    turn_read_no _ _ _ _ c.requires _ (head_is _ _ c.kind_at.ensures c.term_head.ensures c.in-Fwd.is) c.read_fwd.ensures
+    (read_no _ _ c.in_err-read_fwd-in-Fwd.was) (left _ c.from_residual-in_err-read_fwd-in-Fwd.ensures.1)
+
+pub read_turn-returns-in_ok-read_fwd-in-Fwd : goal.read_turn-returns-in_ok-read_fwd-in-Fwd
+read_turn-returns-in_ok-read_fwd-in-Fwd t c =
+    turn_read _ _ _ _ c.requires _ (head_is _ _ c.kind_at.ensures c.term_head.ensures c.in-Fwd.is) c.read_fwd.ensures
+    (read_at _ _ c.in_ok-read_fwd-in-Fwd.was)
+
+pub read_turn-returns-in_err-read_call-in-Call : goal.read_turn-returns-in_err-read_call-in-Call
+read_turn-returns-in_err-read_call-in-Call t c =
+    turn_read_no _ _ _ _ c.requires _ (head_is _ _ c.kind_at.ensures c.term_head.ensures c.in-Call.is) c.read_call.ensures
+    (read_no _ _ c.in_err-read_call-in-Call.was) (left _ c.from_residual-in_err-read_call-in-Call.ensures.1)
+
+pub read_turn-returns-in_ok-read_call-in-Call : goal.read_turn-returns-in_ok-read_call-in-Call
+read_turn-returns-in_ok-read_call-in-Call t c =
+    turn_read _ _ _ _ c.requires _ (head_is _ _ c.kind_at.ensures c.term_head.ensures c.in-Call.is) c.read_call.ensures
+    (read_at _ _ c.in_ok-read_call-in-Call.was)
+
+pub read_turn-returns-in_err-read_try-in-Try : goal.read_turn-returns-in_err-read_try-in-Try
+read_turn-returns-in_err-read_try-in-Try t c =
+    turn_read_no _ _ _ _ c.requires _ (head_is _ _ c.kind_at.ensures c.term_head.ensures c.in-Try.is) c.read_try.ensures
+    (read_no _ _ c.in_err-read_try-in-Try.was) (left _ c.from_residual-in_err-read_try-in-Try.ensures.1)
+
+pub read_turn-returns-in_ok-read_try-in-Try : goal.read_turn-returns-in_ok-read_try-in-Try
+read_turn-returns-in_ok-read_try-in-Try t c =
+    turn_read _ _ _ _ c.requires _ (head_is _ _ c.kind_at.ensures c.term_head.ensures c.in-Try.is) c.read_try.ensures
+    (read_at _ _ c.in_ok-read_try-in-Try.was)
+
+pub read_turn-returns-in-Empty : goal.read_turn-returns-in-Empty
+read_turn-returns-in-Empty t c =
+    turn_empty _ _ _ _ c.requires (head_is _ _ c.kind_at.ensures c.term_head.ensures c.in-Empty.is)
+    (omega (arith, c.requires, (token_onward c.args.text.now c.args.c.now.at).starts))

@@ -1,21 +1,21 @@
 use native.Mathlib.Omega.{arith}
 use Rattle.read_text.proofs.TermPaths.{send_no, send_name_no, send_on}
-use Rattle.read_types.proofs.Taking.{left}
+use Rattle.read_types.proofs.Taking.{left, step_no, step_at}
 use Rattle.read_text.proofs.terms.read_send.Goals as goal
 
 pub returns-in_err-at : goal.returns-in_err-at
 returns-in_err-at c =
     send_no _ _ _ _ c.requires c.process_term.ensures
-    c.in_err-at.was (left _ c.from_residual.ensures.1)
+    (step_no _ c.in_err-at.was) (left _ c.from_residual.ensures.1)
 
 pub returns-in_err-i : goal.returns-in_err-i
 returns-in_err-i c =
     send_name_no _ _ _ _ c.requires
-    c.process_term.ensures c.in_ok-at.was
-    c.expect.ensures c.in_err-i.was (left _ c.from_residual-in_err-i.ensures.1)
+    c.process_term.ensures (step_at _ c.in_ok-at.was)
+    c.expect.ensures (step_no _ c.in_err-i.was) (left _ c.from_residual-in_err-i.ensures.1)
 
 pub returns : goal.returns
 returns c =
-    send_on _ _ _ _ c.requires c.process_term.ensures c.in_ok-at.was
-    c.expect.ensures c.in_ok-i.was c.payload_at.ensures
+    send_on _ _ _ _ c.requires c.process_term.ensures (step_at _ c.in_ok-at.was)
+    c.expect.ensures (step_at _ c.in_ok-i.was) c.payload_at-head.ensures
     c.read_sent.ensures
