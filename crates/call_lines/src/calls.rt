@@ -1,5 +1,5 @@
 // The calls of the entries that the lines of a log ask for, and the words of their answers.
-ghost use Rattle.std.specs.Prelude.{[], ◌≤◌, length};
+ghost use Rattle.std.specs.Prelude.{[], ◌≡◌, ◌≤◌, length, take, Some};
 ghost use Rattle.interpreter.specs.Entries.{to_start, to_step, to_run_on, to_report, to_places, to_name};
 ghost use Rattle.call_lines.specs.Answering.{answer_room, Answered, LineAnswered};
 
@@ -34,20 +34,36 @@ fn call_run_on(text: &[u8], scratch: &mut [u32], run: &mut [u32], n: u32, out: &
     put_ran_on(text, out, 0, answer)
 }
 
+// The first n words, or all where there are fewer.
+fn first(words: &[u32], n: u32) -> &[u32]
+    ensures { result.now ≡ take n words.now }
+{
+    &words[..words.len().min(n as usize)]
+}
+
 fn call_report(text: &[u8], scratch: &mut [u32], run: &[u32], out: &mut [u8]) -> usize
     requires { answer_room text.now ≤ length out.old }
     ensures { Answered text.now to_report scratch.old run.now scratch.new run.now out.old out.new result }
 {
-    let answer = report(text, scratch, run);
-    put_reported(out, 0, &answer)
+    match report(text, scratch, run) {
+        Ok(told) => put_reported(out, 0, Ok(told.open), first(&told.numbers, told.open)),
+        Err(refusal) => put_reported(out, 0, Err(refusal), &[]),
+    }
 }
 
 fn call_places(text: &[u8], scratch: &mut [u32], run: &[u32], out: &mut [u8]) -> usize
     requires { answer_room text.now ≤ length out.old }
     ensures { Answered text.now to_places scratch.old run.now scratch.new run.now out.old out.new result }
 {
-    let answer = places(text, scratch, run);
-    put_surveyed(out, 0, &answer)
+    match places(text, scratch, run) {
+        Ok(told) => put_surveyed(
+            out,
+            0,
+            Ok(told.processes),
+            first(&told.steps, told.processes),
+        ),
+        Err(refusal) => put_surveyed(out, 0, Err(refusal), &[]),
+    }
 }
 
 fn call_name(text: &[u8], scratch: &mut [u32], line: u32, out: &mut [u8]) -> usize
@@ -61,7 +77,7 @@ fn call_name(text: &[u8], scratch: &mut [u32], line: u32, out: &mut [u8]) -> usi
 }
 
 // Makes the call and puts the words of its answer. The lines that lend make none: the caller lends so from there on.
-pub fn answer_line(
+fn answer_call(
     text: &[u8],
     scratch: &mut [u32],
     run: &mut [u32],
@@ -69,7 +85,7 @@ pub fn answer_line(
     out: &mut [u8],
 ) -> usize
     requires { answer_room text.now ≤ length out.old }
-    ensures line_answered { LineAnswered call text.now scratch.old run.old scratch.new run.new out.old out.new result }
+    ensures line_answered { LineAnswered (Some call) text.now scratch.old run.old scratch.new run.new out.old out.new result }
     ensures upper_bound { result ≤ length out.new }
 {
     match call {
@@ -80,5 +96,23 @@ pub fn answer_line(
         CallLine::Places => call_places(text, scratch, run, out),
         CallLine::Name(n) => call_name(text, scratch, n, out),
         CallLine::Scratch(_) | CallLine::RunWords(_) => put(out, 0, b"lent"),
+    }
+}
+
+// Answers what a line asks for, as `read_line` reads it. One that is no call is not answered.
+pub fn answer_line(
+    text: &[u8],
+    scratch: &mut [u32],
+    run: &mut [u32],
+    call: Option<CallLine>,
+    out: &mut [u8],
+) -> usize
+    requires { answer_room text.now ≤ length out.old }
+    ensures line_answered { LineAnswered call text.now scratch.old run.old scratch.new run.new out.old out.new result }
+    ensures upper_bound { result ≤ length out.new }
+{
+    match call {
+        Some(asked) => answer_call(text, scratch, run, asked, out),
+        None => 0,
     }
 }

@@ -20,17 +20,17 @@ pub fn lent_at_first() -> Lent
     }
 }
 
-// What is lent after a line.
+// What is lent after a line, as `read_line` reads it.
 #[tactic(auto, unfolding(crate::specs::Lending::lent_after))]
-pub fn lend(lent: Lent, call: CallLine) -> Lent
+pub fn lend(lent: Lent, call: Option<CallLine>) -> Lent
     ensures { result ≡ lent_after call lent }
 {
     match call {
-        CallLine::Scratch(n) => Lent {
+        Some(CallLine::Scratch(n)) => Lent {
             scratch: n as usize,
             ..lent
         },
-        CallLine::RunWords(n) => Lent {
+        Some(CallLine::RunWords(n)) => Lent {
             run: n as usize,
             ..lent
         },

@@ -25,10 +25,7 @@ fn print_answered<W: Write>(
     requires most_scratch_in_bounds { (most_scratch ≤ length scratch.old) × (most_run ≤ length run.old) × (answer_room text.now ≤ length out.old) }
     ensures { IfOk result (λ after. Lendable after) }
 {
-    // There is none: no line is printed before each is seen to be a call.
-    let Some(call) = read_line(line) else {
-        return Ok(lent);
-    };
+    let call = read_line(line);
     let n = answer_line(
         text,
         &mut scratch[..lent.scratch],

@@ -1,5 +1,5 @@
 -- The words that a log of calls has for an answer. s is the text.
-use Rattle.std.specs.Prelude.{ℕ, zero, suc, ◌+◌, List, [], ◌∷◌, ◌++◌, Bool, true, false, ◌&&◌, leb, take, Ok, Err}
+use Rattle.std.specs.Prelude.{ℕ, zero, suc, ◌+◌, List, [], ◌∷◌, ◌++◌, Bool, true, false, ◌&&◌, leb, Ok, Err}
 use Rattle.notation.specs.Bytes.{bytes}
 use Rattle.notation.specs.Refusals.{OrRefusal}
 use Rattle.notation.specs.Token.{name_at}
@@ -11,8 +11,6 @@ use Rattle.calculus.specs.declared.answers.Stepped.{Stepped}
 use Rattle.calculus.specs.declared.answers.Stepped.TheVariants as Steps
 use Rattle.calculus.specs.declared.answers.RanOn.{RanOn}
 use Rattle.calculus.specs.declared.answers.RanOn.TheVariants as Runs
-use Rattle.calculus.specs.declared.answers.Report.{Report}
-use Rattle.calculus.specs.declared.answers.Places.{Places}
 
 -- ── a refusal, with its offset where it has one: "0 for 1 and from 16 on"
 abbrev pub has_offset : ℕ → Bool
@@ -95,20 +93,3 @@ answer_words s (ran_on a) = ran_on_words s a
 answer_words s (reported a l) = reported_words a l
 answer_words s (surveyed a l) = surveyed_words a l
 answer_words s (name_given part n at) = named_words part n at
-
--- ── what a report and a survey list, and their words
-abbrev pub open_numbers : OrRefusal Report → List ℕ
-open_numbers (Ok r) = take r.open r.numbers
-open_numbers (Err e) = []
-
-abbrev pub report_words : OrRefusal Report → List ℕ
-report_words (Ok r) = reported_words (Ok r.open) (take r.open r.numbers)
-report_words (Err e) = reported_words (Err e) []
-
-abbrev pub place_steps : OrRefusal Places → List ℕ
-place_steps (Ok r) = take r.processes r.steps
-place_steps (Err e) = []
-
-abbrev pub places_words : OrRefusal Places → List ℕ
-places_words (Ok r) = surveyed_words (Ok r.processes) (take r.processes r.steps)
-places_words (Err e) = surveyed_words (Err e) []

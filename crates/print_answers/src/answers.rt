@@ -1,11 +1,11 @@
 // The words that a log of calls has for an answer, put from `at` on: a function for each kind of answer.
 ghost use Rattle.std.specs.Prelude.{◌+◌, ◌*◌, ◌≤◌, length};
 ghost use Rattle.print_bytes.specs.Writing.{Appended};
-ghost use Rattle.print_answers.specs.Answers.{started_words, stepped_words, steps_words, ran_on_words, open_numbers, report_words, place_steps, places_words, named_words};
+ghost use Rattle.print_answers.specs.Answers.{started_words, stepped_words, steps_words, ran_on_words, reported_words, surveyed_words, named_words};
 
-use crate::lists::{first, put_numbers, put_places};
+use crate::lists::{put_numbers, put_places};
 use crate::parts::{put_refused, put_seen};
-use calculus::answers::{Places, RanOn, Report, Stepped};
+use calculus::answers::{RanOn, Stepped};
 use notation::refusal::Refusal;
 use print_bytes::writing::{put, put_decimal};
 
@@ -69,34 +69,39 @@ pub fn put_ran_on(text: &[u8], out: &mut [u8], at: usize, answer: Result<RanOn, 
     }
 }
 
-// The numbers that the report lists.
+// With the numbers that the report lists.
 #[tactic(auto, unfolding(crate::specs::Answers::reported_words))]
-pub fn put_reported(out: &mut [u8], at: usize, answer: &Result<Report, Refusal>) -> usize
-    requires { at + 32 + 11 * length (open_numbers answer.now) ≤ length out.old }
-    ensures { Appended out.old out.new at result (report_words answer.now) }
+pub fn put_reported(
+    out: &mut [u8],
+    at: usize,
+    answer: Result<u32, Refusal>,
+    numbers: &[u32],
+) -> usize
+    requires { at + 32 + 11 * length numbers.now ≤ length out.old }
+    ensures { Appended out.old out.new at result (reported_words answer numbers.now) }
 {
     match answer {
-        Ok(report) => {
+        Ok(_) => {
             let a = put(out, at, b"open");
-            put_numbers(out, a, first(&report.numbers, report.open))
+            put_numbers(out, a, numbers)
         }
-        Err(refusal) => put_refused(out, at, *refusal),
+        Err(refusal) => put_refused(out, at, refusal),
     }
 }
 
-// How many processes there are, and what the step at each of their places is.
+// How many processes there are, with what the step at each of their places is.
 #[tactic(auto, unfolding(crate::specs::Answers::surveyed_words))]
-pub fn put_surveyed(out: &mut [u8], at: usize, answer: &Result<Places, Refusal>) -> usize
-    requires { at + 32 + 6 * length (place_steps answer.now) ≤ length out.old }
-    ensures { Appended out.old out.new at result (places_words answer.now) }
+pub fn put_surveyed(out: &mut [u8], at: usize, answer: Result<u32, Refusal>, steps: &[u32]) -> usize
+    requires { at + 32 + 6 * length steps.now ≤ length out.old }
+    ensures { Appended out.old out.new at result (surveyed_words answer steps.now) }
 {
     match answer {
-        Ok(places) => {
-            let a = put_decimal(out, at, places.processes as usize);
+        Ok(processes) => {
+            let a = put_decimal(out, at, processes as usize);
             let b = put(out, a, b" processes");
-            put_places(out, b, first(&places.steps, places.processes))
+            put_places(out, b, steps)
         }
-        Err(refusal) => put_refused(out, at, *refusal),
+        Err(refusal) => put_refused(out, at, refusal),
     }
 }
 

@@ -1,16 +1,9 @@
 // Lists of numbers, put one after another.
-ghost use Rattle.std.specs.Prelude.{◌≡◌, ◌+◌, ◌*◌, ◌≤◌, length, take};
+ghost use Rattle.std.specs.Prelude.{◌+◌, ◌*◌, ◌≤◌, length};
 ghost use Rattle.print_bytes.specs.Writing.{Appended};
 ghost use Rattle.print_answers.specs.Answers.{each_words, number_word, place_word};
 
 use print_bytes::writing::{put, put_decimal};
-
-// The first n numbers, or all where there are fewer.
-pub(crate) fn first(numbers: &[u32], n: u32) -> &[u32]
-    ensures { result.now ≡ take n numbers.now }
-{
-    &numbers[..numbers.len().min(n as usize)]
-}
 
 fn put_number(out: &mut [u8], at: usize, n: u32) -> usize
     requires { at + 11 ≤ length out.old }

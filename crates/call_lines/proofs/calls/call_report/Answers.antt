@@ -1,6 +1,14 @@
+use Rattle.std.proofs.Common.{ap}
+use Rattle.interpreter.specs.Entries.{report_answer}
+use Rattle.print_answers.specs.Answers.{answer_words, reported_words}
 use Rattle.print_bytes.specs.Writing.{appended_as}
-use Rattle.call_lines.specs.Answering.{answered_by_lem, report_said}
+use Rattle.call_lines.specs.Answering.{answer_said}
 use Rattle.call_lines.proofs.calls.call_report.Goals as goal
 
-pub returns : goal.returns
-returns c = answered_by_lem _ c.report-answer.ensures.answers (appended_as (report_said c.args.text.now c.report-answer.result) c.put_reported.ensures)
+pub returns-in-Ok : goal.returns-in-Ok
+unfolding answer_words
+returns-in-Ok c = answer_said report_answer _ c.in-Ok.is c.report.ensures.answers (appended_as (ap (reported_words _) c.first.ensures) c.put_reported.ensures)
+
+pub returns-in-Err : goal.returns-in-Err
+unfolding answer_words
+returns-in-Err c = answer_said report_answer _ c.in-Err.is c.report.ensures.answers c.put_reported-in-Err.ensures

@@ -1,6 +1,6 @@
 use mathlib.Core.Path.{refl}
 use Rattle.call_lines.specs.Answering.{line_answered_lem}
-use Rattle.call_lines.proofs.calls.answer_line.Goals as goal
+use Rattle.call_lines.proofs.calls.answer_call.Goals as goal
 
 pub returns-in-Start-clause-line_answered : goal.returns-in-Start-clause-line_answered
 returns-in-Start-clause-line_answered c = line_answered_lem _ c.in-Start.is c.call_start.ensures
