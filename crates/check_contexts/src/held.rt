@@ -39,7 +39,8 @@ pub fn position_named(text: &[u8], h: Held, at: usize) -> Option<usize>
     requires { h.count ≤ held_limit }
     ensures { result ≡ first (is_named text.now at) (held_in h) }
 {
-    position_in(text, &h.words, h.count, at)
+    let words = h.words;
+    position_in(text, &words, h.count, at)
 }
 
 // The channel whose name is the one at `at`.

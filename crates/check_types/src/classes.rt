@@ -28,9 +28,12 @@ fn relabel(representatives: &mut [u16; Script::TYPE_TERMS], hi: u16, lo: u16)
     ensures { length representatives.old ≡ type_term_limit → Relabelled type_term_limit hi lo representatives.old representatives.new }
 {
     for representative in representatives.iter_mut() {
-        if *representative == hi {
-            *representative = lo;
-        }
+        // Each is stored, so that the compiler goes over many at a time.
+        *representative = if *representative == hi {
+            lo
+        } else {
+            *representative
+        };
     }
 }
 

@@ -152,12 +152,15 @@ fn is_letter(b: u8) -> bool
     b.is_ascii_alphabetic()
 }
 
-// A byte that a name has: a letter, a digit or _.
+// A byte that a name has: a letter, a digit or _. Most are letters, so these are tested first.
 #[tactic(auto, unfolding(crate::specs::Bytes::letter, crate::specs::Bytes::name_byte))]
 pub fn is_name_byte(b: u8) -> bool
     ensures { result ≡ name_byte b }
 {
-    b.is_ascii_alphanumeric() || b == b'_'
+    if is_letter(b) {
+        return true;
+    }
+    b.is_ascii_digit() || b == b'_'
 }
 
 #[tactic(auto, unfolding(crate::specs::Bytes::blank))]

@@ -36,10 +36,10 @@ fn enter_end(
     requires count_lt_held_limit { (r.count < held_limit) × (at < text_limit) × (side < side_radix) × (node < type_term_limit) }
     ensures { EntersEnd text.now scratch.now h r a at side node result }
 {
-    match find_end(text, h, a) {
-        Some(d) => bring_end(r, at, side, node, d.channel),
-        None => r,
-    }
+    let Some(d) = find_end(text, h, a) else {
+        return r;
+    };
+    bring_end(r, at, side, node, d.channel)
 }
 
 // What is held after a list was entered, and where its walk stopped.

@@ -95,7 +95,9 @@ pub(crate) fn put(run: &mut [u32], at: usize, p: Process)
     run[at] = p.pointer * KIND_RADIX + p.kind;
     run[at + LINK] = p.link;
     run[at + HELD_COUNT] = p.held.count as u32;
-    copy_words(&p.held.words, 0, run, at + ENDS, HELD_WORDS);
+    // Lent as they are, they would keep the whole process in memory: it would be copied at each call.
+    let words = p.held.words;
+    copy_words(&words, 0, run, at + ENDS, HELD_WORDS);
 }
 
 // Another process at a place.

@@ -12,8 +12,8 @@ loop-representative-preserved c =
     let m = c.loop-representative.invariant in
     let l : c.loop-representative.representative-index < length c.loop-representative.representatives = omega (arith, m.long) in
     elim c.if-representative-hi.branch [
-      | then-representative-hi w ↦ rw w.representatives-is (relabel_hit c.args.hi c.args.lo m l w.if-representative-hi.true)
-      | else-representative-hi w ↦ rw w.representatives-is (relabel_miss c.args.hi c.args.lo m l w.if-representative-hi.false)
+      | then-representative-hi w ↦ rw w.representative-is (relabel_hit c.args.hi c.args.lo m l w.if-representative-hi.true)
+      | else-representative-hi w ↦ rw w.representative-is (relabel_miss c.args.hi c.args.lo m l w.if-representative-hi.false)
     ]
 
 pub returns : goal.returns

@@ -11,7 +11,7 @@ bring_end-requires c = (
   (end_found_lem {w = c.args.scratch.now} c.find_end.ensures c.in-Some.is c.requires.held_in.0).0.bounds.channel,
 )
 
-pub returns-in-Some : goal.returns-in-Some
-returns-in-Some c =
+pub returns : goal.returns
+returns c =
     enters_found c.args.text.now c.args.scratch.now c.args.h c.args.r c.args.a c.args.at c.args.side c.args.node
     c.find_end.ensures c.requires.held_in.1 _ _ c.in-Some.is c.requires.held_in.2 c.bring_end.ensures
