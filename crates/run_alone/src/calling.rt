@@ -137,12 +137,11 @@ pub fn call(
     };
     let d = declared_process(scratch, k);
     let held = enter_call(text, scratch, p.held, bracket, d);
-    let q = Process {
-        kind: RUNNING,
-        pointer: d.body as u32,
-        held,
-        ..p
-    };
+    // Set one by one: as a struct with `..p`, what is held would be copied twice more.
+    let mut q = p;
+    q.kind = RUNNING;
+    q.pointer = d.body as u32;
+    q.held = held;
     store(run, place, q);
     Outcome::Carried(Seen::Nothing)
 }
