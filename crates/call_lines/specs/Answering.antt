@@ -56,6 +56,6 @@ module _ {s w ws v vs old new : List ℕ} {r : ℕ} where
   pub line_answered_lem : {call : CallLine} (x : CallLine) → call ≡ x → line_answered (Some x) s w ws v vs old new r → LineAnswered (Some call) s w ws v vs old new r
   line_answered_lem x e p = record { is = subst (λ c. line_answered (Some c) s w ws v vs old new r) (sym e) p }
 
-  -- the words of what an entry answered are those of the answer that it was
+  -- the same of an entry whose answer, by `answer` of the value a, is known to be that of x: the buffer has the words of x's
   pub answer_said : {A : Type 0} (answer : A → Answer) {q : Request} {a : A} (x : A) → a ≡ x → Answers s (called q w ws (answer a) v vs) → Appended old new 0 r (answer_words s (answer x)) → Answered s q w ws v vs old new r
   answer_said answer {a = a} x e h p = answered_by_lem (answer a) h (subst (λ y. Appended old new 0 r (answer_words s (answer y))) (sym e) p)
